@@ -1,0 +1,6 @@
+use Rattle.std.proofs.Common.{◌≡◌, take}
+use Rattle.sdb_base.proofs.items.Items.from_slice.Given as goal
+
+-- the items so far are copied
+abbrev pub invariant-loop-item : goal.invariant-loop-item
+invariant-loop-item g l = l.copied ≡ take l.item-index l.items

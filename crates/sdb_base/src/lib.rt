@@ -1,0 +1,27 @@
+//! The values that blocks are made of: byte strings, changes of keys, blocks, trie nodes and lists of
+//! them.
+//!
+//! A contract sees each list as the list of its items and each record by its fields, so that a
+//! definition can speak of them as of plain data, and equal values are equal there however they lie in
+//! memory. A list takes its allocator when it is made and keeps it. A call that finds no memory says so
+//! and changes nothing. What the values mean, which keys and lengths are allowed, and how they are spelled,
+//! is left to the layers above.
+#![tactic(auto)]
+
+mod block;
+mod bytes;
+mod change;
+mod items;
+mod node;
+
+pub use block::{Block, BlockId, Prepared};
+pub use bytes::Bytes;
+pub use change::{Change, Changes};
+pub use items::{Items, TryCopy};
+pub use node::{HashList, Node, NodeHash, NodeList};
+
+/// A list of texts, as the words of a command line.
+pub type Words = Items<Bytes>;
+
+/// A call found no memory.
+pub type OutOfMemory = std::alloc::AllocError;

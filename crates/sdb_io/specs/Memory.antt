@@ -1,0 +1,36 @@
+-- What a contract sees of a source and a sink in memory.
+use Rattle.std.specs.Prelude.{ℕ, List, drop}
+use Rattle.sdb_io.specs.declared.memory.MemSource.{MemSource}
+use Rattle.sdb_io.specs.declared.memory.MemSink.{MemSink}
+
+-- the bytes that a source has left
+abbrev pub left_of : MemSource → List ℕ
+left_of s = drop s.at s.bytes.items
+
+-- the calls of `take` that are to fail, counted from 0
+abbrev pub takes_to_fail : MemSource → List ℕ
+takes_to_fail s = s.failing.items
+
+-- how many calls of `take` there were
+abbrev pub takes : MemSource → ℕ
+takes s = s.calls
+
+-- how many calls of `take` failed
+abbrev pub failed_takes : MemSource → ℕ
+failed_takes s = s.faults
+
+-- the bytes that a sink has got
+abbrev pub got_by : MemSink → List ℕ
+got_by k = k.bytes.items
+
+-- the calls of `put` that are to fail, counted from 0
+abbrev pub puts_to_fail : MemSink → List ℕ
+puts_to_fail k = k.failing.items
+
+-- how many calls of `put` there were
+abbrev pub puts : MemSink → ℕ
+puts k = k.calls
+
+-- how many calls of `put` failed
+abbrev pub failed_puts : MemSink → ℕ
+failed_puts k = k.faults

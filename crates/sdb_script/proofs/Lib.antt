@@ -1,0 +1,9 @@
+pub mod Changing
+pub mod Cuts
+pub mod Decimals
+pub mod Digits
+pub mod Longer
+pub mod OnLiterals
+pub mod Spelled
+pub mod WrittenLines
+pub mod WrittenWords

@@ -1,0 +1,124 @@
+ghost use Rattle.std.specs.Prelude.{◌≡◌, Some, None, IfOk, IsErrOf};
+ghost use Rattle.sdb_script.specs.Grammar.{line_of, is_blank, new_of, genesis_of, import_of, read_of, line_of_words, words_of};
+ghost use Rattle.sdb_script.specs.Reading.{Gives, words_left};
+
+use crate::changes::parse_changes;
+use crate::cursor::{first_word, next_word};
+use crate::line::{Line, LineFault};
+use crate::number::parse_number;
+use crate::word::{parse_id, parse_key};
+use sdb_base::{Block, BlockId};
+use sdb_model::Task;
+use std::alloc::Global;
+
+const MOST_IN_LINE: usize = 16777216;
+
+#[tactic(auto, unfolding(crate::specs::Grammar::is_blank))]
+fn is_blank(line: &[u8]) -> bool
+    ensures { result ≡ is_blank line.now }
+{
+    match line {
+        [] => true,
+        [b'#', rest @ ..] => !rest.contains(&b'\n'),
+        _ => false,
+    }
+}
+
+// The line of the words behind `new`.
+#[tactic(auto, unfolding(crate::specs::Grammar::new_of))]
+fn parse_new(words: Option<&[u8]>) -> Option<Line>
+    ensures { result ≡ new_of (words_left words.entry) }
+{
+    let (base, rest) = next_word(words)?;
+    if rest.is_some() {
+        return None;
+    }
+    let base = parse_number(base, 0, 16)?;
+    Some(Line::New { base: base as u8 })
+}
+
+// The line of the words behind `genesis`.
+#[tactic(auto, unfolding(crate::specs::Grammar::genesis_of))]
+fn parse_genesis(alloc: Global, words: Option<&[u8]>) -> Result<Line, LineFault>
+    ensures { Gives result (genesis_of (words_left words.entry)) }
+{
+    let (id, words) = next_word(words).ok_or(LineFault::NotInGrammar)?;
+    let (window, words) = next_word(words).ok_or(LineFault::NotInGrammar)?;
+    let id = parse_id(id).ok_or(LineFault::NotInGrammar)?;
+    let window = parse_number(window, 1, 4096).ok_or(LineFault::NotInGrammar)?;
+    let block = Block {
+        id,
+        parent: BlockId([0; 32]),
+        changes: parse_changes(alloc, words)?,
+        version: 0,
+    };
+    Ok(Line::Genesis { window, block })
+}
+
+// The line of the words behind `import`.
+#[tactic(auto, unfolding(crate::specs::Grammar::import_of))]
+fn parse_import(alloc: Global, words: Option<&[u8]>) -> Result<Line, LineFault>
+    ensures { Gives result (import_of (words_left words.entry)) }
+{
+    let (id, words) = next_word(words).ok_or(LineFault::NotInGrammar)?;
+    let (parent, words) = next_word(words).ok_or(LineFault::NotInGrammar)?;
+    let id = parse_id(id).ok_or(LineFault::NotInGrammar)?;
+    let parent = parse_id(parent).ok_or(LineFault::NotInGrammar)?;
+    let block = Block {
+        id,
+        parent,
+        changes: parse_changes(alloc, words)?,
+        version: 0,
+    };
+    Ok(Line::Job {
+        task: Task::Import(block),
+    })
+}
+
+// The line of the words behind `read`.
+#[tactic(auto, unfolding(crate::specs::Grammar::read_of))]
+fn parse_read(alloc: Global, words: Option<&[u8]>) -> Result<Line, LineFault>
+    ensures { Gives result (read_of (words_left words.entry)) }
+{
+    let (id, words) = next_word(words).ok_or(LineFault::NotInGrammar)?;
+    let (key, rest) = next_word(words).ok_or(LineFault::NotInGrammar)?;
+    if rest.is_some() {
+        return Err(LineFault::NotInGrammar);
+    }
+    let id = parse_id(id).ok_or(LineFault::NotInGrammar)?;
+    let key = parse_key(alloc, key)?;
+    Ok(Line::Job {
+        task: Task::Read { id, key },
+    })
+}
+
+// The line of a text of words.
+#[tactic(auto, unfolding(crate::specs::Grammar::line_of_words))]
+fn parse_words(alloc: Global, line: &[u8]) -> Result<Line, LineFault>
+    ensures { Gives result (line_of_words (words_of line.now)) }
+{
+    let (word, words) = first_word(line);
+    match word {
+        b"new" => parse_new(words).ok_or(LineFault::NotInGrammar),
+        b"genesis" => parse_genesis(alloc, words),
+        b"import" => parse_import(alloc, words),
+        b"read" => parse_read(alloc, words),
+        _ => Err(LineFault::NotInGrammar),
+    }
+}
+
+/// The line of a text, which is given without its line feed. `NotInGrammar` comes exactly where the text is no
+/// line, `OutOfMemory` for want of memory alone.
+#[tactic(auto, unfolding(crate::specs::Grammar::line_of))]
+pub fn parse_line(alloc: Global, line: &[u8]) -> Result<Line, LineFault>
+    ensures line { IfOk result (λ l. line_of line.now ≡ Some l) }
+    ensures not_in_grammar { IsErrOf result LineFault.NotInGrammar → line_of line.now ≡ None }
+{
+    if line.len() > MOST_IN_LINE {
+        return Err(LineFault::NotInGrammar);
+    }
+    if is_blank(line) {
+        return Ok(Line::Blank);
+    }
+    parse_words(alloc, line)
+}

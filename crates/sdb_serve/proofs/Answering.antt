@@ -1,0 +1,94 @@
+-- What each kind of line is answered, by what is known before it.
+use Rattle.std.proofs.Common.{◌≡◌, ◌≢◌, ℕ, suc, ◌+◌, ◌<◌, ◌≤◌, ◌==◌, true, false, List, [], ◌∷◌, ◌++◌, length, refl, sym, ap, ◌∙◌, arith, inl, inr, Option, Some, None}
+use Rattle.std.specs.Prelude.{nat_lt}
+use Rattle.std.proofs.lemmas.Bool.{cases_lt, le-ltb, lt-ltb, ne_eqb}
+use Rattle.sdb_base.specs.declared.Block.{Block}
+use Rattle.sdb_model.specs.declared.Reply.{Reply}
+use Rattle.sdb_model.specs.declared.Task.{Task}
+use Rattle.sdb_script.specs.Grammar.{line_of}
+use Rattle.sdb_script.specs.declared.Line.{Line}
+use Rattle.sdb_script.specs.declared.Line.TheVariants as lines
+use Rattle.sdb_script.specs.declared.LineReply.{LineReply}
+use Rattle.sdb_script.specs.declared.LineReply.TheVariants as replies
+use Rattle.sdb_serve.specs.Session.{Session, answered, job_answered, line_played, most_bytes, reply_line}
+
+pub blank : (s : Session) → answered s lines.Blank ≡ Some (None, s)
+unfolding answered
+blank s = refl
+
+pub new_first : (s : Session) (base : ℕ) → s.begun ≡ false → answered s (lines.New base) ≡ Some (Some replies.New, record s { begun = true })
+unfolding answered
+new_first s base e = rw e refl
+
+pub new_again : (s : Session) (base : ℕ) → s.begun ≡ true → answered s (lines.New base) ≡ None
+unfolding answered
+new_again s base e = rw e refl
+
+pub genesis_first : (s : Session) (window : ℕ) (b : Block) → s.begun ≡ true → s.blocks ≡ []
+    → answered s (lines.Genesis window b) ≡ Some (Some replies.Genesis, record s { window = window; blocks = b ∷ [] })
+unfolding answered
+genesis_first s window b e f = rw (e, f) refl
+
+pub genesis_early : (s : Session) (window : ℕ) (b : Block) → s.begun ≡ false → answered s (lines.Genesis window b) ≡ None
+unfolding answered
+genesis_early s window b e = rw e refl
+
+some_blocks : (blocks : List Block) → blocks ≢ [] → (length blocks == 0) ≡ false
+some_blocks [] h = absurd (h refl)
+some_blocks (b ∷ bs) h = ne_eqb _ 0 (λ e. absurd (omega (arith, e)))
+
+pub genesis_again : (s : Session) (window : ℕ) (b : Block) → s.begun ≡ true → s.blocks ≢ [] → answered s (lines.Genesis window b) ≡ None
+unfolding answered
+genesis_again s window b e h = rw (e, some_blocks s.blocks h) refl
+
+pub job_early : (s : Session) (task : Task) → s.blocks ≡ [] → answered s (lines.Job task) ≡ None
+unfolding answered
+job_early s task f = rw f refl
+
+pub job_is : (s : Session) (task : Task) (reply : Reply) (after : List Block) → s.blocks ≢ [] → job_answered s.blocks task ≡ Some (reply, after)
+    → answered s (lines.Job task) ≡ Some (Some (replies.Job reply), record s { blocks = after })
+unfolding answered
+job_is s task reply after h e = rw (some_blocks s.blocks h, e) refl
+
+pub job_none : (s : Session) (task : Task) → s.blocks ≢ [] → job_answered s.blocks task ≡ None → answered s (lines.Job task) ≡ None
+unfolding answered
+job_none s task h e = rw (some_blocks s.blocks h, e) refl
+
+-- ---- a line's text
+
+pub too_far : (s : Session) (text : List ℕ) → most_bytes < s.read + (length text + 1) → line_played s text ≡ None
+unfolding line_played
+too_far s text h = rw (lt-ltb _ _ h) refl
+
+pub no_line : (s : Session) (text : List ℕ) → line_of text ≡ None → line_played s text ≡ None
+unfolding line_played
+no_line s text e = elim (cases_lt most_bytes (s.read + (length text + 1))) [
+  | inl lt ↦ rw (lt-ltb _ _ lt) refl
+  | inr le ↦ rw (le-ltb _ _ le, e) refl
+]
+
+pub not_answered : (s : Session) (text : List ℕ) (line : Line) → line_of text ≡ Some line → answered s line ≡ None → line_played s text ≡ None
+unfolding line_played
+not_answered s text line e f = elim (cases_lt most_bytes (s.read + (length text + 1))) [
+  | inl lt ↦ rw (lt-ltb _ _ lt) refl
+  | inr le ↦ rw (le-ltb _ _ le, e, f) refl
+]
+
+pub line_is : (s : Session) (text : List ℕ) (line : Line) (reply : Option LineReply) (next : Session) → s.read + (length text + 1) ≤ most_bytes
+    → line_of text ≡ Some line → answered s line ≡ Some (reply, next)
+    → line_played s text ≡ Some (reply_line reply, record next { read = s.read + (length text + 1) })
+unfolding line_played
+line_is s text line reply next le e f = rw (le-ltb _ _ le, e, f) refl
+
+-- ---- tests
+
+pub no_test : false ≡ true → ⊥
+no_test e = cc
+
+pub no_items : {X : Type 0} (xs : List X) → (length xs == 0) ≡ true → xs ≡ []
+no_items [] e = refl
+no_items (x ∷ xs) e = absurd (no_test (sym (ne_eqb (length (x ∷ xs)) 0 (λ h. absurd (omega (arith, h)))) ∙ e))
+
+pub nothing_in : {X : Type 0} (xs : List X) → length xs ≡ 0 → xs ≡ []
+nothing_in [] e = refl
+nothing_in (x ∷ xs) e = absurd (omega (arith, e))

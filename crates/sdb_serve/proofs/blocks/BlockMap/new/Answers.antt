@@ -1,0 +1,5 @@
+use Rattle.sdb_serve.proofs.Keeping.{keeps_nothing}
+use Rattle.sdb_serve.proofs.blocks.BlockMap.new.Goals as goal
+
+pub returns : goal.returns
+returns c = keeps_nothing _ c.new.ensures.empty c.new-2.ensures.items

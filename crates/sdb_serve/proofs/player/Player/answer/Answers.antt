@@ -1,0 +1,47 @@
+use Rattle.std.proofs.Common.{◌≡◌, sym, ◌∙◌, refl, ap, rules, true, List, [], ◌∷◌}
+use Rattle.sdb_serve.specs.Steps.{Stands}
+use Rattle.sdb_serve.proofs.Answering.{blank, genesis_again, genesis_early, genesis_first, job_early, job_is, job_none, new_again, new_first, no_test}
+use Rattle.sdb_serve.proofs.player.Player.answer.Goals as goal
+
+pub returns-then-self-clause-refused : goal.returns-then-self-clause-refused
+returns-then-self-clause-refused c = λ s h _. rw c.in-New.is (new_again s _ (sym h.begun ∙ c.if-self.true))
+
+pub returns-in-Blank-clause-answer : goal.returns-in-Blank-clause-answer
+returns-in-Blank-clause-answer c = λ s h. (s, rw c.in-Blank.is (blank s), h)
+
+pub returns-else-self-clause-answer : goal.returns-else-self-clause-answer
+returns-else-self-clause-answer c = λ s h. (
+  record s { begun = true },
+  rw c.in-New.is (new_first s _ (sym h.begun ∙ c.if-self.false)),
+  record { begun = refl; window = h.window; read = h.read; blocks = h.blocks },
+)
+
+pub returns-then-not-self-clause-refused : goal.returns-then-not-self-clause-refused
+returns-then-not-self-clause-refused c = λ s h _. rw c.in-Genesis.is (genesis_early s _ _ (sym h.begun ∙ c.if-not-self.true))
+
+pub returns-then-not-is_empty-clause-refused : goal.returns-then-not-is_empty-clause-refused
+returns-then-not-is_empty-clause-refused c = λ s h _.
+    rw c.in-Genesis.is (genesis_again s _ _ (sym h.begun ∙ c.if-not-self.false) (λ e. no_test ((c.if-not-is_empty.ensures s.blocks h.blocks).1 e)))
+
+pub returns-in_ok-genesis-in-Genesis-clause-answer : goal.returns-in_ok-genesis-in-Genesis-clause-answer
+returns-in_ok-genesis-in-Genesis-clause-answer c = λ s h.
+    let none : s.blocks ≡ [] = (c.if-not-is_empty.ensures s.blocks h.blocks).0 refl in (
+      record s { window = c.in-Genesis.window; blocks = c.in-Genesis.block ∷ [] },
+      rw c.in-Genesis.is (genesis_first s _ _ (sym h.begun ∙ c.if-not-self.false) none),
+      record { begun = h.begun; window = refl; read = h.read; blocks = c.in_ok-genesis-in-Genesis.ensures.ok (rw none at h.blocks) },
+    )
+
+pub returns-then-is_empty-clause-refused : goal.returns-then-is_empty-clause-refused
+returns-then-is_empty-clause-refused c = λ s h _. rw c.in-Job.is (job_early s _ ((c.if-is_empty.ensures s.blocks h.blocks).0 refl))
+
+pub returns-in-Ok-clause-answer : goal.returns-in-Ok-clause-answer
+returns-in-Ok-clause-answer c = λ s h.
+    let a = c.in-Ok.ensures.answer s.blocks h.blocks in (
+      record s { blocks = a.0 },
+      rw c.in-Job.is (job_is s _ _ a.0 (λ e. no_test ((c.if-is_empty.ensures s.blocks h.blocks).1 e)) a.1),
+      record { begun = h.begun; window = h.window; read = h.read; blocks = a.2 },
+    )
+
+pub returns-in-Err-clause-refused : goal.returns-in-Err-clause-refused
+returns-in-Err-clause-refused c = λ s h e.
+    rw c.in-Job.is (job_none s _ (λ f. no_test ((c.if-is_empty.ensures s.blocks h.blocks).1 f)) (c.in-Err.ensures.refused s.blocks h.blocks cc))

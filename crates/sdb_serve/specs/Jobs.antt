@@ -1,0 +1,48 @@
+-- What a job is answered over whole maps.
+use Rattle.std.specs.Prelude.{ℕ, ◌+◌, nat_le, Bool, List, [], ◌∷◌, if◌then◌else◌, Option, Some, None, is_some}
+use Rattle.std.specs.FinMap.{get}
+use Rattle.sdb_base.specs.declared.Block.{Block}
+use Rattle.sdb_model.specs.State.{State}
+use Rattle.sdb_model.specs.Blocks.{chain_of, count_at, number_of}
+use Rattle.sdb_model.specs.declared.Refusal.TheVariants.{UnknownBlock, AlreadyExists, UnknownParent}
+use Rattle.sdb_model.specs.declared.Reply.{Reply}
+use Rattle.sdb_model.specs.declared.Reply.TheVariants.{Imported, Value, Nothing, Refused}
+
+-- the value, or that there is none
+abbrev pub value_reply : Option (List ℕ) → Reply
+value_reply None = Nothing
+value_reply (Some value) = Value value
+
+-- a read of a key in a block's state
+abbrev pub read_reply : Option State → List ℕ → Reply
+read_reply None key = Refused UnknownBlock
+read_reply (Some m) key = value_reply (get m key)
+
+-- at most so many blocks have one number
+abbrev pub most_siblings : ℕ
+most_siblings = 32
+
+-- An import on a parent of this number, if it has one. It isn't answered where its own number would get one
+-- block too many.
+abbrev pub import_on : List Block → Block → Option ℕ → Option Reply
+import_on blocks b None = Some (Refused UnknownParent)
+import_on blocks b (Some n) =
+    if is_some (chain_of blocks b.id) then Some (Refused AlreadyExists)
+    else if nat_le most_siblings (count_at blocks (n + 1)) then None
+    else Some (Imported (n + 1))
+
+-- an import of a block
+unfoldable pub import_reply : List Block → Block → Option Reply
+import_reply blocks b = import_on blocks b (number_of blocks b.parent)
+
+-- the blocks after that reply to an import
+abbrev pub after_import : List Block → Block → Reply → List Block
+after_import blocks b (Imported n) = b ∷ blocks
+after_import blocks b (Value value) = blocks
+after_import blocks b Nothing = blocks
+after_import blocks b (Refused refusal) = blocks
+
+-- the same, where it isn't answered too
+abbrev pub blocks_after : List Block → Block → Option Reply → List Block
+blocks_after blocks b None = blocks
+blocks_after blocks b (Some reply) = after_import blocks b reply

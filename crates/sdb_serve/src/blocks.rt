@@ -1,0 +1,134 @@
+ghost use Rattle.std.specs.Prelude.{◌≡◌, ◌↔◌, List, [], ◌∷◌, slice_index, IsTrue, IfOk, OnOk, OnErr, Some};
+ghost use Rattle.sdb_base.specs.declared.Block.{Block};
+ghost use Rattle.sdb_model.specs.Blocks.{state_of};
+ghost use Rattle.sdb_serve.specs.Jobs.{blocks_after, import_reply, read_reply};
+
+use crate::state_map::StateMap;
+use sdb_base::{Block, BlockId, Bytes, OutOfMemory, TryCopy};
+use sdb_model::{Refusal, Reply};
+use std::alloc::Global;
+use std::collections::BTreeMap;
+
+// at most so many blocks have one number
+const MOST_SIBLINGS: u32 = 32;
+
+/// What is kept of one block.
+#[derive(Drop)]
+pub(crate) struct Kept {
+    number: u64,
+    state: StateMap,
+}
+
+/// The accepted blocks, each with its number and its whole state.
+#[derive(Drop)]
+pub(crate) struct BlockMap {
+    alloc: Global,
+    blocks: BTreeMap<BlockId, Kept>,
+    // how many blocks have each number
+    levels: Vec<u32>,
+}
+
+impl BlockMap {
+    ghost use Rattle.std.specs.BTreeMap.{IsUnchanged, Updates};
+    ghost use Rattle.sdb_serve.specs.Blocks.{Keeps, id_cmp, with_level};
+
+    /// No blocks.
+    pub(crate) fn new(alloc: Global) -> BlockMap
+        ensures { Keeps result [] }
+    {
+        BlockMap {
+            alloc,
+            blocks: BTreeMap::new(alloc),
+            levels: Vec::new(alloc),
+        }
+    }
+
+    /// Whether no block was accepted.
+    pub(crate) fn is_empty(&self) -> bool
+        ensures { (blocks : List Block) → Keeps self.now blocks → (IsTrue result ↔ (blocks ≡ [])) }
+    {
+        self.levels.is_empty()
+    }
+
+    /// Accepts genesis, where no block was accepted. An `Err` leaves the blocks as they were.
+    pub(crate) fn genesis(&mut self, block: &Block) -> Result<(), OutOfMemory>
+        ensures ok { Keeps self.old [] → OnOk result (Keeps self.new (block.now ∷ [])) }
+        ensures err { (blocks : List Block) → Keeps self.old blocks → OnErr result (Keeps self.new blocks) }
+    {
+        let none = StateMap::new(self.alloc);
+        let state = none.with_changes(self.alloc, block.changes.as_slice())?;
+        self.keep(block.id, Kept { number: 0, state }, 1)
+    }
+
+    /// The reply to a read of a key in a block's state.
+    pub(crate) fn read(&self, id: &BlockId, key: &Bytes) -> Result<Reply, OutOfMemory>
+        ensures { (blocks : List Block) → Keeps self.now blocks
+            → IfOk result (λ reply. reply ≡ read_reply (state_of blocks id.now) key.now) }
+    {
+        let Some(kept) = self.blocks.get(id) else {
+            return Ok(Reply::Refused(Refusal::UnknownBlock));
+        };
+        match kept.state.get(key) {
+            Some(value) => Ok(Reply::Value(value.copy(self.alloc)?)),
+            None => Ok(Reply::Nothing),
+        }
+    }
+
+    /// The reply to an import of a block, which is then accepted unless it is refused; none where its number has as
+    /// many blocks as it may have. An `Err` leaves the blocks as they were.
+    pub(crate) fn import(&mut self, block: &Block) -> Result<Option<Reply>, OutOfMemory>
+        ensures answer { (blocks : List Block) → Keeps self.old blocks
+            → IfOk result (λ reply. reply ≡ import_reply blocks block.now) }
+        ensures after { (blocks : List Block) → Keeps self.old blocks
+            → IfOk result (λ reply. Keeps self.new (blocks_after blocks block.now reply)) }
+        ensures err { (blocks : List Block) → Keeps self.old blocks → OnErr result (Keeps self.new blocks) }
+    {
+        let Some(parent) = self.blocks.get(&block.parent) else {
+            return Ok(Some(Reply::Refused(Refusal::UnknownParent)));
+        };
+        if self.blocks.contains_key(&block.id) {
+            return Ok(Some(Reply::Refused(Refusal::AlreadyExists)));
+        }
+        // there are more levels than this number, so that the sum is exact
+        let number = parent.number.saturating_add(1);
+        let siblings = self.count_at(number);
+        if siblings >= MOST_SIBLINGS {
+            return Ok(None);
+        }
+        let state = parent
+            .state
+            .with_changes(self.alloc, block.changes.as_slice())?;
+        self.keep(block.id, Kept { number, state }, siblings + 1)?;
+        Ok(Some(Reply::Imported(number)))
+    }
+
+    /// How many blocks have a number.
+    fn count_at(&self, number: u64) -> u32
+        ensures { result ≡ slice_index self.now.levels.items number }
+    {
+        let level = number as usize;
+        if level < self.levels.len() {
+            self.levels[level]
+        } else {
+            0
+        }
+    }
+
+    /// Keeps what is kept of a block under its id, and how many blocks then have its number. An `Err` changes
+    /// nothing.
+    fn keep(&mut self, id: BlockId, kept: Kept, count: u32) -> Result<(), OutOfMemory>
+        ensures added { OnOk result (Updates id_cmp self.old.blocks self.new.blocks id (Some kept)) }
+        ensures levels { OnOk result (self.new.levels.items ≡ with_level self.old.levels.items kept.number count) }
+        ensures err { OnErr result (IsUnchanged self.old.blocks self.new.blocks × (self.new.levels.items ≡ self.old.levels.items)) }
+    {
+        let level = kept.number as usize;
+        self.levels.reserve(1)?;
+        self.blocks.insert(id, kept)?;
+        if level < self.levels.len() {
+            self.levels[level] = count;
+        } else {
+            self.levels.push(count)?;
+        }
+        Ok(())
+    }
+}

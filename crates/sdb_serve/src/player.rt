@@ -1,0 +1,188 @@
+ghost use Rattle.std.specs.Prelude.{◌≡◌, ◌+◌, ◌^◌, ◌≤◌, List, length, Some, None, IfOk, OnOk, OnErr, IsErrOf};
+ghost use Rattle.sdb_base.specs.declared.Block.{Block};
+ghost use Rattle.sdb_serve.specs.Session.{Session, answered, first_session, job_answered, line_played, reply_line};
+ghost use Rattle.sdb_script.specs.Grammar.{line_of};
+ghost use Rattle.sdb_serve.specs.Blocks.{Keeps};
+ghost use Rattle.sdb_serve.specs.declared.player.PlayFault.TheVariants.{NotAnswered, OutOfMemory};
+
+use crate::blocks::BlockMap;
+use sdb_model::{Reply, Task};
+use sdb_script::{Line, LineFault, LineReply, parse_line, reply_text};
+use std::alloc::{AllocError, AllocFailed, Global};
+
+// At most so many bytes of a script are read.
+const MOST_BYTES: u64 = 1 << 40;
+
+/// Why a line wasn't answered.
+#[derive(Clone, Copy, Debug, PartialEq, Eq)]
+pub(crate) enum PlayFault {
+    /// It isn't in the grammar, may not stand here, or takes the script past its most bytes.
+    NotAnswered,
+    /// There was no memory.
+    OutOfMemory,
+}
+
+impl From<AllocError> for PlayFault {
+    ghost from_gives = { λ _ e. e ≡ OutOfMemory };
+
+    fn from(_e: AllocError) -> PlayFault {
+        PlayFault::OutOfMemory
+    }
+}
+
+impl<T: Drop> From<AllocFailed<T>> for PlayFault {
+    ghost from_gives = { λ _ e. e ≡ OutOfMemory };
+
+    fn from(_e: AllocFailed<T>) -> PlayFault {
+        PlayFault::OutOfMemory
+    }
+}
+
+/// Carries out the lines of a script, one after another.
+#[derive(Drop)]
+pub(crate) struct Player {
+    alloc: Global,
+    begun: bool,
+    // the pruning window of genesis, by which nothing is pruned yet
+    window: u32,
+    blocks: BlockMap,
+    // the bytes of the lines so far, line feeds included
+    read: u64,
+    lines: u64,
+    ghost within: { read ≤ 2 ^ 40 },
+    ghost few: { lines ≤ read },
+}
+
+fn parsed(alloc: Global, line: &[u8]) -> Result<Line, PlayFault>
+    ensures line { IfOk result (λ l. line_of line.now ≡ Some l) }
+    ensures refused { IsErrOf result PlayFault.NotAnswered → line_of line.now ≡ None }
+{
+    match parse_line(alloc, line) {
+        Ok(parsed) => Ok(parsed),
+        Err(LineFault::NotInGrammar) => Err(PlayFault::NotAnswered),
+        Err(LineFault::OutOfMemory) => Err(PlayFault::OutOfMemory),
+    }
+}
+
+fn write_reply(
+    alloc: Global,
+    reply: &Option<LineReply>,
+    text: &mut Vec<u8>,
+) -> Result<(), AllocError>
+    ensures { OnOk result (text.new.items ≡ reply_line reply.now) }
+{
+    text.clear();
+    if let Some(reply) = reply {
+        reply_text(alloc, reply, text)?;
+        text.push(b'\n')?;
+    }
+    Ok(())
+}
+
+fn job(blocks: &mut BlockMap, task: &Task) -> Result<Reply, PlayFault>
+    ensures answer { (all : List Block) → Keeps blocks.old all → IfOk result (λ reply. (after : List Block)
+        × (job_answered all task.now ≡ Some (reply, after)) × Keeps blocks.new after) }
+    ensures refused { (all : List Block) → Keeps blocks.old all → IsErrOf result PlayFault.NotAnswered → job_answered all task.now ≡ None }
+{
+    match task {
+        Task::Read { id, key } => Ok(blocks.read(id, key)?),
+        Task::Import(block) => match blocks.import(block)? {
+            Some(reply) => Ok(reply),
+            None => Err(PlayFault::NotAnswered),
+        },
+    }
+}
+
+impl Player {
+    ghost use Rattle.sdb_serve.specs.Steps.{Stands};
+
+    /// Nothing was read.
+    pub(crate) fn new(alloc: Global) -> Player
+        ensures stands { Stands result first_session }
+        ensures lines { result.lines ≡ 0 }
+        ensures read { result.read ≡ 0 }
+    {
+        Player {
+            alloc,
+            begun: false,
+            window: 0,
+            blocks: BlockMap::new(alloc),
+            read: 0,
+            lines: 0,
+        }
+    }
+
+    /// How many lines were answered.
+    pub(crate) fn lines(&self) -> u64
+        ensures { result ≡ self.now.lines }
+    {
+        self.lines
+    }
+
+    fn answer(&mut self, line: &Line) -> Result<Option<LineReply>, PlayFault>
+        ensures answer { (s : Session) → Stands self.old s → IfOk result (λ reply. (next : Session)
+            × (answered s line.now ≡ Some (reply, next)) × Stands self.new next) }
+        ensures refused { (s : Session) → Stands self.old s → IsErrOf result PlayFault.NotAnswered → answered s line.now ≡ None }
+        ensures lines { self.new.lines ≡ self.old.lines }
+        ensures read { self.new.read ≡ self.old.read }
+    {
+        match line {
+            Line::Blank => Ok(None),
+            Line::New { base: _ } => {
+                if self.begun {
+                    return Err(PlayFault::NotAnswered);
+                }
+                self.begun = true;
+                Ok(Some(LineReply::New))
+            }
+            Line::Genesis { window, block } => {
+                if !self.begun {
+                    return Err(PlayFault::NotAnswered);
+                }
+                if !self.blocks.is_empty() {
+                    return Err(PlayFault::NotAnswered);
+                }
+                self.blocks.genesis(block)?;
+                self.window = *window;
+                Ok(Some(LineReply::Genesis))
+            }
+            Line::Job { task } => {
+                if self.blocks.is_empty() {
+                    return Err(PlayFault::NotAnswered);
+                }
+                match job(&mut self.blocks, task) {
+                    Ok(reply) => Ok(Some(LineReply::Job(reply))),
+                    Err(fault) => Err(fault),
+                }
+            }
+        }
+    }
+
+    /// Answers a line: its reply, with a line feed, replaces what is in `text`, and a line that gets none leaves it
+    /// empty. After an `Err` the player isn't used again.
+    pub(crate) fn play(&mut self, line: &[u8], text: &mut Vec<u8>) -> Result<(), PlayFault>
+        ensures answer { (s : Session) → Stands self.old s → OnOk result ((next : Session)
+            × (line_played s line.now ≡ Some (text.new.items, next)) × Stands self.new next) }
+        ensures refused { (s : Session) → Stands self.old s → IsErrOf result PlayFault.NotAnswered → line_played s line.now ≡ None }
+        ensures lines { OnOk result (self.new.lines ≡ self.old.lines + 1) }
+        ensures read { OnOk result (self.new.read ≡ self.old.read + (length line.now + 1)) }
+        ensures stopped { OnErr result (self.new.lines ≡ self.old.lines) }
+    {
+        let taken = line.len() as u64 + 1;
+        if self.read + taken > MOST_BYTES {
+            return Err(PlayFault::NotAnswered);
+        }
+        let parsed = match parsed(self.alloc, line) {
+            Ok(parsed) => parsed,
+            Err(fault) => return Err(fault),
+        };
+        let reply = match self.answer(&parsed) {
+            Ok(reply) => reply,
+            Err(fault) => return Err(fault),
+        };
+        write_reply(self.alloc, &reply, text)?;
+        self.read += taken;
+        self.lines += 1;
+        Ok(())
+    }
+}

@@ -1,0 +1,36 @@
+ghost use Rattle.std.specs.Prelude.{◌≡◌};
+
+/// How a run ended.
+#[derive(Clone, Copy, Debug, PartialEq, Eq)]
+pub enum Status {
+    /// 0: all lines were answered, and the source was read to its end.
+    Done,
+    /// 2: the words aren't the one word `script`.
+    Usage,
+    /// 3: a line isn't in the grammar, may not stand where it stands, is too long or isn't ended.
+    Script,
+    /// 4: the source failed.
+    SourceFault,
+    /// 5: the sink failed.
+    SinkFault,
+    /// 11: there was no memory.
+    NoMemory,
+}
+
+impl Status {
+    ghost use Rattle.sdb_serve.specs.Statuses.{status_code};
+
+    /// The exit status of a process.
+    pub fn code(self) -> u8
+        ensures { result ≡ status_code self }
+    {
+        match self {
+            Status::Done => 0,
+            Status::Usage => 2,
+            Status::Script => 3,
+            Status::SourceFault => 4,
+            Status::SinkFault => 5,
+            Status::NoMemory => 11,
+        }
+    }
+}
