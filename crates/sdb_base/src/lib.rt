@@ -1,5 +1,5 @@
-//! The values that blocks are made of: byte strings, changes of keys, blocks, trie nodes and lists of
-//! them.
+//! The values that blocks and tries are made of: byte strings, nibbles, changes of keys, blocks, trie nodes and
+//! lists of them.
 //!
 //! A contract sees each list as the list of its items and each record by its fields, so that a
 //! definition can speak of them as of plain data, and equal values are equal there however they lie in
@@ -12,13 +12,17 @@ mod block;
 mod bytes;
 mod change;
 mod items;
+mod nibbles;
 mod node;
+mod pair;
 
 pub use block::{Block, BlockId, Prepared};
 pub use bytes::Bytes;
 pub use change::{Change, Changes};
 pub use items::{Items, TryCopy};
+pub use nibbles::Nibbles;
 pub use node::{HashList, Node, NodeHash, NodeList};
+pub use pair::{Pair, Pairs};
 
 /// A list of texts, as the words of a command line.
 pub type Words = Items<Bytes>;

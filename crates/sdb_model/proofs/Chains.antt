@@ -10,7 +10,7 @@ use Rattle.sdb_base.specs.declared.BlockId.{BlockId}
 use Rattle.sdb_base.specs.declared.Change.{Change}
 use Rattle.sdb_model.specs.State.{State, apply, no_keys}
 use Rattle.sdb_model.specs.Blocks.{chain_of, number_of, same_id, state_of}
-use Rattle.sdb_model.proofs.States.{apply-append}
+use Rattle.trie_model.proofs.States.{apply-append}
 
 pub same_id-refl : (id : BlockId) → same_id id id ≡ true
 same_id-refl id = nat_list_eq_equiv.refl id.0

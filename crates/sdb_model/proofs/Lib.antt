@@ -1,3 +1,2 @@
-pub mod States
 pub mod Chains
 pub mod Counts

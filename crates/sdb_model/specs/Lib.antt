@@ -1,2 +1,2 @@
-pub mod State
+pub use Rattle.trie_model.specs.State
 pub mod Blocks

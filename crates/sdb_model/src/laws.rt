@@ -1,19 +1,8 @@
-ghost use Rattle.std.specs.Prelude.{◌≡◌, ℕ, ◌+◌, true, false, List, [], ◌∷◌, ◌++◌, Option, Some, if◌then◌else◌};
-ghost use Rattle.std.specs.Str.{bytes_eq};
-ghost use Rattle.std.specs.FinMap as map;
+ghost use Rattle.std.specs.Prelude.{◌≡◌, ℕ, ◌+◌, false, List, [], ◌∷◌, Some};
 ghost use Rattle.sdb_base.specs.declared.Block.{Block};
 ghost use Rattle.sdb_base.specs.declared.BlockId.{BlockId};
-ghost use Rattle.sdb_base.specs.declared.Change.{Change};
-ghost use Rattle.sdb_model.specs.State.{State, apply, no_keys, with_key};
-ghost use Rattle.sdb_model.specs.Blocks.{chain_of, number_of, same_id, state_of};
-
-/// A change sets its own key and no other, and the last change of a key counts.
-pub fn changes_apply_in_order()
-    ensures none { (key : List ℕ) → map.get no_keys key ≡ None }
-    ensures one { (m : State) (key q : List ℕ) (value : Option (List ℕ))
-        → map.get (with_key m key value) q ≡ (if bytes_eq key q then value else map.get m q) }
-    ensures joined { (m : State) (cs ds : List Change) → apply m (cs ++ ds) ≡ apply (apply m cs) ds }
-{}
+ghost use Rattle.sdb_model.specs.State.{State, apply, no_keys};
+ghost use Rattle.sdb_model.specs.Blocks.{number_of, same_id, state_of};
 
 /// Genesis has number 0, and its state is its changes applied to no keys. Any other block has its parent's number
 /// plus one, and its state is its parent's with its own changes applied.

@@ -10,7 +10,5 @@
 mod laws;
 mod task;
 
-pub use laws::{
-    block_state_is_parents_with_changes, changes_apply_in_order, later_blocks_change_no_other,
-};
+pub use laws::{block_state_is_parents_with_changes, later_blocks_change_no_other};
 pub use task::{Refusal, Reply, Task};

@@ -12,7 +12,7 @@ use Rattle.std.proofs.lemmas.List.Elements.{same_from_all_zip}
 use Rattle.std.proofs.lemmas.Map.Lookups.{exact_bytes}
 use Rattle.std.proofs.lemmas.Map.Text.{is_eq-slice_cmp}
 use Rattle.sdb_model.specs.State.{with_key}
-use Rattle.sdb_model.proofs.States.{get-with_key}
+use Rattle.trie_model.proofs.States.{get-with_key}
 
 -- what the entries have at a key
 abbrev pub value_at : List (List ℕ × List ℕ) → List ℕ → Option (List ℕ)

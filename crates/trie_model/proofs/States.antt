@@ -7,7 +7,7 @@ use Rattle.std.specs.Cmp.Lexicographic.{slice_cmp}
 use Rattle.std.proofs.lemmas.Cmp.{eq_by_cmp_equiv, nat_list_cmp_total}
 use Rattle.std.proofs.lemmas.Map.Text.{is_eq-slice_cmp}
 use Rattle.sdb_base.specs.declared.Change.{Change}
-use Rattle.sdb_model.specs.State.{State, apply, no_keys, with_key}
+use Rattle.trie_model.specs.State.{State, apply, no_keys, with_key}
 
 -- keys that the order of bytes does not tell apart are equal bytes
 pub key_ties : (key q : List ℕ) → eq_by_cmp (slice_cmp nat_cmp) q key ≡ bytes_eq key q

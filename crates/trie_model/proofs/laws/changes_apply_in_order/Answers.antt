@@ -1,5 +1,5 @@
-use Rattle.sdb_model.proofs.States.{get-no_keys, get-with_key, apply-append}
-use Rattle.sdb_model.proofs.laws.changes_apply_in_order.Goals as goal
+use Rattle.trie_model.proofs.States.{get-no_keys, get-with_key, apply-append}
+use Rattle.trie_model.proofs.laws.changes_apply_in_order.Goals as goal
 
 pub returns-clause-none : goal.returns-clause-none
 returns-clause-none c = get-no_keys

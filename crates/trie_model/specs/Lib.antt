@@ -1,0 +1,4 @@
+pub mod State
+pub mod Nibbles
+pub mod Node
+pub mod Trie

@@ -1,0 +1,33 @@
+ghost use Rattle.std.specs.Prelude.{◌≡◌, ℕ, List, [], ◌∷◌, ◌++◌, Some, None, Option, if◌then◌else◌, codes};
+ghost use Rattle.std.specs.Str.{bytes_eq};
+ghost use Rattle.std.specs.FinMap as map;
+ghost use Rattle.sdb_base.specs.declared.Change.{Change};
+ghost use Rattle.trie_model.specs.State.{State, apply, no_keys, with_key};
+ghost use Rattle.sdb_base.specs.Nibbles.{nibbles_of};
+ghost use Rattle.trie_model.specs.Node.{empty_node, header, spelling};
+ghost use Rattle.trie_model.specs.Trie.{node_over, root_node};
+
+/// A change sets its own key and no other, and the last change of a key counts.
+pub fn changes_apply_in_order()
+    ensures none { (key : List ℕ) → map.get no_keys key ≡ None }
+    ensures one { (m : State) (key q : List ℕ) (value : Option (List ℕ))
+        → map.get (with_key m key value) q ≡ (if bytes_eq key q then value else map.get m q) }
+    ensures joined { (m : State) (cs ds : List Change) → apply m (cs ++ ds) ≡ apply (apply m cs) ds }
+{}
+
+/// States that answer alike have one trie, whichever changes made them.
+pub fn equal_states_have_one_trie()
+    ensures { (m n : State) → ((key : List ℕ) → map.get m key ≡ map.get n key) → root_node m ≡ root_node n }
+{}
+
+/// Nodes that the definitions give, by computing: the header of each length at which it grows, the node of the empty
+/// trie, and root nodes of one key, of a key that another one extends, and of two keys that differ in their last nibble.
+pub fn known_nodes()
+    ensures headers { (header 1 62 ≡ 0x7e ∷ []) × (header 1 63 ≡ 0x7f ∷ (0 ∷ [])) × (header 1 64 ≡ 0x7f ∷ (1 ∷ [])) × (header 1 318 ≡ 0x7f ∷ (0xff ∷ (0 ∷ []))) }
+    ensures nothing { spelling (node_over 1 []) ≡ 0 ∷ [] }
+    ensures one { spelling (node_over 3 ((nibbles_of (0xaa ∷ []), []) ∷ [])) ≡ 0x42 ∷ (0xaa ∷ (0 ∷ [])) }
+    ensures extended { spelling (node_over 5 ((nibbles_of (0xaa ∷ []), 1 ∷ []) ∷ ((nibbles_of (0xaa ∷ (0xbb ∷ [])), 2 ∷ []) ∷ [])))
+        ≡ 0xc2 ∷ (0xaa ∷ (0x00 ∷ (0x08 ∷ (0x04 ∷ (0x01 ∷ (0x10 ∷ (0x41 ∷ (0x0b ∷ (0x04 ∷ (0x02 ∷ [])))))))))) }
+    ensures apart { spelling (node_over 3 ((nibbles_of (0xaa ∷ []), 1 ∷ []) ∷ ((nibbles_of (0xab ∷ []), 2 ∷ []) ∷ [])))
+        ≡ 0x81 ∷ (0x0a ∷ (0x00 ∷ (0x0c ∷ (0x0c ∷ (0x40 ∷ (0x04 ∷ (0x01 ∷ (0x0c ∷ (0x40 ∷ (0x04 ∷ (0x02 ∷ []))))))))))) }
+{}

@@ -1,0 +1,12 @@
+//! States and their tries, as definitions.
+//!
+//! A state is a finite map from byte keys to byte values, and changes apply to it in their order. Its trie is built
+//! from the whole map by longest common prefixes of keys in nibbles; a node has one spelling, and the root is the
+//! hash of the root node's. The definitions stand in `specs/`: `State`, `Nibbles`, `Node` and `Trie`, after the
+//! Polkadot Host specification with state version 0. The functions are laws about them. How tries are read, made and
+//! changed is left to the layers above.
+#![tactic(auto)]
+
+mod laws;
+
+pub use laws::{changes_apply_in_order, equal_states_have_one_trie, known_nodes};
