@@ -1,7 +1,6 @@
 -- Nibbles in bytes.
 use Rattle.std.specs.Prelude.{ℕ, ◌+◌, ◌*◌, ◌%◌, ◌==◌, List, [], ◌∷◌, length, if◌then◌else◌}
 
-
 -- nibbles in pairs, the first in the high half
 abbrev pub paired : List ℕ → List ℕ
 paired [] = []
