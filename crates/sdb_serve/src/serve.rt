@@ -169,11 +169,14 @@ fn zeros(alloc: Global, len: usize) -> Result<Vec<u8>, AllocError>
     vec![in alloc; 0u8; len]
 }
 
-/// Drops the bytes before `used`.
+/// Drops the bytes before `used`. A line that comes in many pieces stays where it is until it is whole.
 fn drop_front(bytes: &mut Vec<u8>, used: usize)
     requires { used ≤ vec_len bytes.old }
     ensures { bytes.new.items ≡ drop used bytes.old.items }
 {
+    if used == 0 {
+        return;
+    }
     let left = bytes.len() - used;
     bytes.copy_within(used.., 0);
     bytes.truncate(left);
