@@ -17,53 +17,53 @@ use Rattle.sdb_serve.proofs.Unique.{no_script, not_whole}
 abbrev pub at_start : List ℕ → Run
 at_start input = record { lines = []; out = []; session = first_session; more = input }
 
-stops : (status : Status) (r : Run) → status ≢ SinkFault → HasStopped status r → Stops status r
-stops Done r ne h = h
-stops Usage r ne h = h
-stops Script r ne h = h
-stops SourceFault r ne h = h
-stops SinkFault r ne h = absurd (ne refl)
-stops NoMemory r ne h = h
+stops : (left : Option (List ℕ)) (status : Status) (r : Run) → status ≢ SinkFault → HasStopped status left r → Stops status left r
+stops left Done r ne h = h
+stops left Usage r ne h = h
+stops left Script r ne h = h
+stops left SourceFault r ne h = h
+stops left SinkFault r ne h = absurd (ne refl)
+stops left NoMemory r ne h = h
 
-has_stopped : (status : Status) (r : Run) → Stops status r → HasStopped status r
-has_stopped Done r h = h
-has_stopped Usage r h = h
-has_stopped Script r h = h
-has_stopped SourceFault r h = h
-has_stopped SinkFault r h = tt
-has_stopped NoMemory r h = h
+has_stopped : (left : Option (List ℕ)) (status : Status) (r : Run) → Stops status left r → HasStopped status left r
+has_stopped left Done r h = h
+has_stopped left Usage r h = h
+has_stopped left Script r h = h
+has_stopped left SourceFault r h = h
+has_stopped left SinkFault r h = tt
+has_stopped left NoMemory r h = h
 
-held : (status : Status) (r : Run) (text : List ℕ) → status ≢ SinkFault → IsHeld status r text → text ≡ r.out
-held Done r text ne h = h
-held Usage r text ne h = absurd h
-held Script r text ne h = h
-held SourceFault r text ne h = h
-held SinkFault r text ne h = absurd (ne refl)
-held NoMemory r text ne h = h
+held : (left : Option (List ℕ)) (status : Status) (r : Run) (text : List ℕ) → status ≢ SinkFault → IsHeld status left r text → text ≡ r.out
+held left Done r text ne h = h
+held left Usage r text ne h = absurd h
+held left Script r text ne h = h
+held left SourceFault r text ne h = h
+held left SinkFault r text ne h = absurd (ne refl)
+held left NoMemory r text ne h = h
 
-written : (status : Status) (r : Run) (text : List ℕ) → Stops status r → text ≡ r.out ++ last_line status (length r.lines) → IsWritten status r text
-written Done r text h e = e
-written Usage r text h e = absurd h
-written Script r text h e = e
-written SourceFault r text h e = e
-written SinkFault r text h e = absurd h
-written NoMemory r text h e = e
+written : (left : Option (List ℕ)) (status : Status) (r : Run) (text : List ℕ) → Stops status left r → text ≡ r.out ++ last_line status (length r.lines) → IsWritten status left r text
+written left Done r text h e = e
+written left Usage r text h e = absurd h
+written left Script r text h e = e
+written left SourceFault r text h e = e
+written left SinkFault r text h e = absurd h
+written left NoMemory r text h e = e
 
 -- the sink failed, and wrote some of a line
-sink_failed : (r : Run) (input : List ℕ) (p : Player) (old new : Option (List ℕ)) → r.out ≡ [] → Halts SinkFault r input p old new → IsRunOf SinkFault input old new
-sink_failed r input p old new none halts = record {
+sink_failed : (r : Run) (input : List ℕ) (p : Player) (left old new : Option (List ℕ)) → r.out ≡ [] → Halts SinkFault r input p left old new → IsRunOf SinkFault input left old new
+sink_failed r input p left old new none halts = record {
   at = halts.at;
   run = halts.run;
   stopped = tt;
   written = λ before told. halts.held before (told ∙ ap (λ (t : List ℕ). Some t) (sym (append-nil before) ∙ ap (λ (t : List ℕ). before ++ t) (sym none)));
 }
 
-pub cut_off : (status : Status) (r : Run) (input : List ℕ) (p : Player) (old new : Option (List ℕ)) → status ≡ SinkFault → r.out ≡ []
-    → Halts status r input p old new → IsRunOf SinkFault input old new
-cut_off status r input p old new e none halts = sink_failed r input p old new none (subst (λ (s : Status). Halts s r input p old new) e halts)
+pub cut_off : (status : Status) (r : Run) (input : List ℕ) (p : Player) (left old new : Option (List ℕ)) → status ≡ SinkFault → r.out ≡ []
+    → Halts status r input p left old new → IsRunOf SinkFault input left old new
+cut_off status r input p left old new e none halts = sink_failed r input p left old new none (subst (λ (s : Status). Halts s r input p left old new) e halts)
 
-pub whole : (r : Run) (input : List ℕ) (p : Player) (old new : Option (List ℕ)) → r.out ≡ [] → Halts Done r input p old new → IsRunOf Done input old new
-whole r input p old new none halts = record {
+pub whole : (r : Run) (input : List ℕ) (p : Player) (left old new : Option (List ℕ)) → r.out ≡ [] → Halts Done r input p left old new → IsRunOf Done input left old new
+whole r input p left old new none halts = record {
   at = halts.at;
   run = halts.run;
   stopped = halts.stopped;
@@ -73,36 +73,36 @@ whole r input p old new none halts = record {
 }
 
 -- a status's last line was written behind the replies
-ends_with : (status : Status) (r : Run) (input : List ℕ) (p : Player) (old mid new : Option (List ℕ)) (other : Status) → r.out ≡ [] → status ≢ SinkFault
-    → (halts : Halts status r input p old mid) → Stops other halts.at
-    → ((before : List ℕ) → mid ≡ Some before → new ≡ Some (before ++ last_line other p.lines)) → IsRunOf other input old new
-ends_with status r input p old mid new other none ne halts stop put = record {
+ends_with : (status : Status) (r : Run) (input : List ℕ) (p : Player) (left old mid new : Option (List ℕ)) (other : Status) → r.out ≡ [] → status ≢ SinkFault
+    → (halts : Halts status r input p left old mid) → Stops other left halts.at
+    → ((before : List ℕ) → mid ≡ Some before → new ≡ Some (before ++ last_line other p.lines)) → IsRunOf other input left old new
+ends_with status r input p left old mid new other none ne halts stop put = record {
   at = halts.at;
   run = halts.run;
-  stopped = has_stopped other halts.at stop;
+  stopped = has_stopped left other halts.at stop;
   written = λ before told.
       let h = halts.held before (told ∙ ap (λ (t : List ℕ). Some t) (sym (append-nil before) ∙ ap (λ (t : List ℕ). before ++ t) (sym none))) in
-      let out : h.0 ≡ halts.at.out = held status halts.at h.0 ne h.2 in
+      let out : h.0 ≡ halts.at.out = held left status halts.at h.0 ne h.2 in
       let text : List ℕ = halts.at.out ++ last_line other (length halts.at.lines) in
       let lines : length halts.at.lines ≡ p.lines = halts.lines ne in (
         text,
         put (before ++ h.0) h.1 ∙ ap (λ (t : List ℕ). Some t) (append_assoc before h.0 (last_line other p.lines)
             ∙ ap (λ (t : List ℕ). before ++ (t ++ last_line other p.lines)) out ∙ ap (λ (n : ℕ). before ++ (halts.at.out ++ last_line other n)) (sym lines)),
-        written other halts.at text stop refl,
+        written left other halts.at text stop refl,
       );
 }
 
 -- the sink failed at a status's last line
-fails_with : (status : Status) (r : Run) (input : List ℕ) (p : Player) (old mid new : Option (List ℕ)) (other : Status) → r.out ≡ [] → status ≢ SinkFault
-    → (halts : Halts status r input p old mid) → Stops other halts.at
-    → ((before : List ℕ) → mid ≡ Some before → (n : ℕ) × (new ≡ Some (before ++ take n (last_line other p.lines)))) → IsRunOf SinkFault input old new
-fails_with status r input p old mid new other none ne halts stop put = record {
+fails_with : (status : Status) (r : Run) (input : List ℕ) (p : Player) (left old mid new : Option (List ℕ)) (other : Status) → r.out ≡ [] → status ≢ SinkFault
+    → (halts : Halts status r input p left old mid) → Stops other left halts.at
+    → ((before : List ℕ) → mid ≡ Some before → (n : ℕ) × (new ≡ Some (before ++ take n (last_line other p.lines)))) → IsRunOf SinkFault input left old new
+fails_with status r input p left old mid new other none ne halts stop put = record {
   at = halts.at;
   run = halts.run;
   stopped = tt;
   written = λ before told.
       let h = halts.held before (told ∙ ap (λ (t : List ℕ). Some t) (sym (append-nil before) ∙ ap (λ (t : List ℕ). before ++ t) (sym none))) in
-      let out : h.0 ≡ halts.at.out = held status halts.at h.0 ne h.2 in
+      let out : h.0 ≡ halts.at.out = held left status halts.at h.0 ne h.2 in
       let last : List ℕ = last_line other (length halts.at.lines) in
       let lines : length halts.at.lines ≡ p.lines = halts.lines ne in
       let x = put (before ++ h.0) h.1 in (
@@ -114,38 +114,38 @@ fails_with status r input p old mid new other none ne halts stop put = record {
 }
 
 -- closing a run that stopped
-pub closes : (status : Status) (r : Run) (input : List ℕ) (p : Player) (old mid new : Option (List ℕ)) (result : Status) → r.out ≡ [] → status ≢ SinkFault
-    → Halts status r input p old mid → IsClosed status p.lines result mid new → IsRunOf result input old new
-closes status r input p old mid new result none ne halts closed = elim closed [
-  | inl a ↦ subst (λ (s : Status). IsRunOf s input old new) (sym a.0) (ends_with status r input p old mid new status none ne halts (stops status halts.at ne halts.stopped) a.1)
+pub closes : (status : Status) (r : Run) (input : List ℕ) (p : Player) (left old mid new : Option (List ℕ)) (result : Status) → r.out ≡ [] → status ≢ SinkFault
+    → Halts status r input p left old mid → IsClosed status p.lines result mid new → IsRunOf result input left old new
+closes status r input p left old mid new result none ne halts closed = elim closed [
+  | inl a ↦ subst (λ (s : Status). IsRunOf s input left old new) (sym a.0) (ends_with status r input p left old mid new status none ne halts (stops left status halts.at ne halts.stopped) a.1)
   | inr rest ↦ elim rest [
-    | inl b ↦ subst (λ (s : Status). IsRunOf s input old new) (sym b.1) (ends_with status r input p old mid new NoMemory none ne halts tt b.2)
-    | inr d ↦ subst (λ (s : Status). IsRunOf s input old new) (sym d.0) (elim d.2 [
-      | inl e ↦ fails_with status r input p old mid new d.1 none ne halts (subst (λ (s : Status). Stops s halts.at) (sym e) (stops status halts.at ne halts.stopped)) d.3
-      | inr e ↦ fails_with status r input p old mid new d.1 none ne halts (subst (λ (s : Status). Stops s halts.at) (sym e.1) tt) d.3
+    | inl b ↦ subst (λ (s : Status). IsRunOf s input left old new) (sym b.1) (ends_with status r input p left old mid new NoMemory none ne halts tt b.2)
+    | inr d ↦ subst (λ (s : Status). IsRunOf s input left old new) (sym d.0) (elim d.2 [
+      | inl e ↦ fails_with status r input p left old mid new d.1 none ne halts (subst (λ (s : Status). Stops s left halts.at) (sym e) (stops left status halts.at ne halts.stopped)) d.3
+      | inr e ↦ fails_with status r input p left old mid new d.1 none ne halts (subst (λ (s : Status). Stops s left halts.at) (sym e.1) tt) d.3
     ])
   ]
 ]
 
 -- ---- what a status says of the input
 
-pub complete : (status : Status) (input : List ℕ) (old new : Option (List ℕ)) → IsRunOf status input old new → IsScript input
+pub complete : (status : Status) (input : List ℕ) (left old new : Option (List ℕ)) → IsRunOf status input left old new → IsScript input
     → (status ≡ SourceFault → ⊥) → (status ≡ SinkFault → ⊥) → (status ≡ Done) ⊎ (status ≡ NoMemory)
-complete Done input old new run script a b = inl refl
-complete Usage input old new run script a b = absurd run.stopped
-complete Script input old new run script a b = absurd (no_script run.at input run.run run.stopped script)
-complete SourceFault input old new run script a b = absurd (a refl)
-complete SinkFault input old new run script a b = absurd (b refl)
-complete NoMemory input old new run script a b = inr refl
+complete Done input left old new run script a b = inl refl
+complete Usage input left old new run script a b = absurd run.stopped
+complete Script input left old new run script a b = absurd (no_script run.at input run.run run.stopped script)
+complete SourceFault input left old new run script a b = absurd (a refl)
+complete SinkFault input left old new run script a b = absurd (b refl)
+complete NoMemory input left old new run script a b = inr refl
 
-pub stops_at_bad : (status : Status) (input : List ℕ) (n : ℕ) (old new : Option (List ℕ)) → IsRunOf status input old new → IsFirstBad input n
+pub stops_at_bad : (status : Status) (input : List ℕ) (n : ℕ) (left old new : Option (List ℕ)) → IsRunOf status input left old new → IsFirstBad input n
     → (status ≡ SourceFault → ⊥) → (status ≡ SinkFault → ⊥) → (status ≡ Script) ⊎ (status ≡ NoMemory)
-stops_at_bad Done input n old new run bad a b = absurd (not_whole run.at input n run.run run.stopped bad)
-stops_at_bad Usage input n old new run bad a b = absurd run.stopped
-stops_at_bad Script input n old new run bad a b = inl refl
-stops_at_bad SourceFault input n old new run bad a b = absurd (a refl)
-stops_at_bad SinkFault input n old new run bad a b = absurd (b refl)
-stops_at_bad NoMemory input n old new run bad a b = inr refl
+stops_at_bad Done input n left old new run bad a b = absurd (not_whole run.at input n run.run run.stopped bad)
+stops_at_bad Usage input n left old new run bad a b = absurd run.stopped
+stops_at_bad Script input n left old new run bad a b = inl refl
+stops_at_bad SourceFault input n left old new run bad a b = absurd (a refl)
+stops_at_bad SinkFault input n left old new run bad a b = absurd (b refl)
+stops_at_bad NoMemory input n left old new run bad a b = inr refl
 
 -- ---- statuses, whether or not source and sink tell
 

@@ -145,14 +145,14 @@ piece_goes_on start end piece rest r input p q old mid new order within feed cle
     }
 
 -- what stops a line stops the run there
-pub piece_stops : (status : Status) (start end : ℕ) (piece rest : List ℕ) (r : Run) (input : List ℕ) (p q : Player) (old mid new : Option (List ℕ))
+pub piece_stops : (left : Option (List ℕ)) (status : Status) (start end : ℕ) (piece rest : List ℕ) (r : Run) (input : List ℕ) (p q : Player) (old mid new : Option (List ℕ))
     → start ≤ end → end < length piece → get_or piece end 0 ≡ 10 → HasNoLineFeed (slice_range piece start end)
     → PieceAnswered start piece rest r input p old mid → ((s : Session) → Stands p s → LineStops status s (slice_range piece start end) mid new)
-    → (status ≢ SinkFault → q.lines ≡ p.lines) → Halts status r input q old new
-piece_stops Done start end piece rest r input p q old mid new order within feed clear done line same = absurd (line done.at.session done.is.player)
-piece_stops Usage start end piece rest r input p q old mid new order within feed clear done line same = absurd (line done.at.session done.is.player)
-piece_stops SourceFault start end piece rest r input p q old mid new order within feed clear done line same = absurd (line done.at.session done.is.player)
-piece_stops Script start end piece rest r input p q old mid new order within feed clear done line same =
+    → (status ≢ SinkFault → q.lines ≡ p.lines) → Halts status r input q left old new
+piece_stops left Done start end piece rest r input p q old mid new order within feed clear done line same = absurd (line done.at.session done.is.player)
+piece_stops left Usage start end piece rest r input p q old mid new order within feed clear done line same = absurd (line done.at.session done.is.player)
+piece_stops left SourceFault start end piece rest r input p q old mid new order within feed clear done line same = absurd (line done.at.session done.is.player)
+piece_stops left Script start end piece rest r input p q old mid new order within feed clear done line same =
     let a = line done.at.session done.is.player in
     record {
       at = done.at;
@@ -161,7 +161,7 @@ piece_stops Script start end piece rest r input p q old mid new order within fee
       stopped = inl (slice_range piece start end, drop (end + 1) piece ++ rest, begins_at start end piece rest done.at.more order within feed clear done.is.more, a.0);
       held = λ before told. (done.at.out, a.1 ∙ done.written before told, refl);
     }
-piece_stops NoMemory start end piece rest r input p q old mid new order within feed clear done line same =
+piece_stops left NoMemory start end piece rest r input p q old mid new order within feed clear done line same =
     record {
       at = done.at;
       run = done.is.run;
@@ -169,7 +169,7 @@ piece_stops NoMemory start end piece rest r input p q old mid new order within f
       stopped = tt;
       held = λ before told. (done.at.out, line done.at.session done.is.player ∙ done.written before told, refl);
     }
-piece_stops SinkFault start end piece rest r input p q old mid new order within feed clear done line same =
+piece_stops left SinkFault start end piece rest r input p q old mid new order within feed clear done line same =
     let a = line done.at.session done.is.player in
     let begins = begins_at start end piece rest done.at.more order within feed clear done.is.more in
     record {
@@ -217,9 +217,9 @@ piece_then used pending piece left rest more r input p q old mid new first secon
   written = λ before told. second.written before (first.written before told);
 }
 
-pub halts_then : (status : Status) (pending rest : List ℕ) (r : Run) (input : List ℕ) (p q : Player) (old mid new : Option (List ℕ))
-    → (first : PieceAnswered 0 pending rest r input p old mid) → Halts status first.at input q mid new → Halts status r input q old new
-halts_then status pending rest r input p q old mid new first second = record {
+pub halts_then : (left : Option (List ℕ)) (status : Status) (pending rest : List ℕ) (r : Run) (input : List ℕ) (p q : Player) (old mid new : Option (List ℕ))
+    → (first : PieceAnswered 0 pending rest r input p old mid) → Halts status first.at input q left mid new → Halts status r input q left old new
+halts_then left status pending rest r input p q old mid new first second = record {
   at = second.at;
   run = second.run;
   lines = second.lines;
@@ -227,9 +227,9 @@ halts_then status pending rest r input p q old mid new first second = record {
   held = λ before told. second.held before (first.written before told);
 }
 
-pub no_memory : (pending rest : List ℕ) (r : Run) (input : List ℕ) (p : Player) (old mid : Option (List ℕ)) → PieceAnswered 0 pending rest r input p old mid
-    → Halts NoMemory r input p old mid
-no_memory pending rest r input p old mid first = record {
+pub no_memory : (left : Option (List ℕ)) (pending rest : List ℕ) (r : Run) (input : List ℕ) (p : Player) (old mid : Option (List ℕ)) → PieceAnswered 0 pending rest r input p old mid
+    → Halts NoMemory r input p left old mid
+no_memory left pending rest r input p old mid first = record {
   at = first.at;
   run = first.is.run;
   lines = λ _. first.is.lines;
@@ -237,26 +237,27 @@ no_memory pending rest r input p old mid first = record {
   held = λ before told. (first.at.out, first.written before told, refl);
 }
 
-pub source_fails : (pending rest : List ℕ) (r : Run) (input : List ℕ) (p : Player) (old mid : Option (List ℕ)) → PieceAnswered 0 pending rest r input p old mid
-    → Halts SourceFault r input p old mid
-source_fails pending rest r input p old mid first = record {
+pub source_fails : (left : Option (List ℕ)) (pending rest : List ℕ) (r : Run) (input : List ℕ) (p : Player) (old mid : Option (List ℕ)) → PieceAnswered 0 pending rest r input p old mid
+    → HasNoLineFeed pending → left ≡ Some rest → Halts SourceFault r input p left old mid
+source_fails left pending rest r input p old mid first clear is = record {
   at = first.at;
   run = first.is.run;
   lines = λ _. first.is.lines;
-  stopped = tt;
+  stopped = λ more told. (pending, clear, first.is.more ∙ ap (λ (t : List ℕ). pending ++ t) (some_is rest more (sym is ∙ told)));
   held = λ before told. (first.at.out, first.written before told, refl);
 }
 
-pub reading_fails : (status : Status) (pending rest : List ℕ) (r : Run) (input : List ℕ) (p : Player) (old mid : Option (List ℕ))
-    → (status ≡ SourceFault) ⊎ (status ≡ NoMemory) → PieceAnswered 0 pending rest r input p old mid → Halts status r input p old mid
-reading_fails status pending rest r input p old mid cause first = elim cause [
-  | inl e ↦ rw e (source_fails pending rest r input p old mid first)
-  | inr e ↦ rw e (no_memory pending rest r input p old mid first)
+pub reading_fails : (left : Option (List ℕ)) (status : Status) (pending rest : List ℕ) (r : Run) (input : List ℕ) (p : Player) (old mid : Option (List ℕ))
+    → (status ≡ SourceFault) ⊎ (status ≡ NoMemory) → PieceAnswered 0 pending rest r input p old mid → HasNoLineFeed pending → (status ≡ SourceFault → left ≡ Some rest)
+    → Halts status r input p left old mid
+reading_fails left status pending rest r input p old mid cause first clear is = elim cause [
+  | inl e ↦ rw e (source_fails left pending rest r input p old mid first clear (is e))
+  | inr e ↦ rw e (no_memory left pending rest r input p old mid first)
 ]
 
-pub ends : (pending rest : List ℕ) (r : Run) (input : List ℕ) (p : Player) (old mid : Option (List ℕ)) → PieceAnswered 0 pending rest r input p old mid
-    → rest ≡ [] → pending ≡ [] → Halts Done r input p old mid
-ends pending rest r input p old mid first e f = record {
+pub ends : (left : Option (List ℕ)) (pending rest : List ℕ) (r : Run) (input : List ℕ) (p : Player) (old mid : Option (List ℕ)) → PieceAnswered 0 pending rest r input p old mid
+    → rest ≡ [] → pending ≡ [] → Halts Done r input p left old mid
+ends left pending rest r input p old mid first e f = record {
   at = first.at;
   run = first.is.run;
   lines = λ _. first.is.lines;
@@ -264,9 +265,9 @@ ends pending rest r input p old mid first e f = record {
   held = λ before told. (first.at.out, first.written before told, refl);
 }
 
-is_bad : (pending rest : List ℕ) (r : Run) (input : List ℕ) (p : Player) (old mid : Option (List ℕ)) → (first : PieceAnswered 0 pending rest r input p old mid)
-    → IsBad first.at → Halts Script r input p old mid
-is_bad pending rest r input p old mid first bad = record {
+is_bad : (left : Option (List ℕ)) (pending rest : List ℕ) (r : Run) (input : List ℕ) (p : Player) (old mid : Option (List ℕ)) → (first : PieceAnswered 0 pending rest r input p old mid)
+    → IsBad first.at → Halts Script r input p left old mid
+is_bad left pending rest r input p old mid first bad = record {
   at = first.at;
   run = first.is.run;
   lines = λ _. first.is.lines;
@@ -275,11 +276,11 @@ is_bad pending rest r input p old mid first bad = record {
 }
 
 -- the input ends within a line
-pub not_ended : (pending rest : List ℕ) (r : Run) (input : List ℕ) (p : Player) (old mid : Option (List ℕ)) → PieceAnswered 0 pending rest r input p old mid
-    → rest ≡ [] → HasNoLineFeed pending → pending ≢ [] → Halts Script r input p old mid
-not_ended pending rest r input p old mid first e clear some =
+pub not_ended : (left : Option (List ℕ)) (pending rest : List ℕ) (r : Run) (input : List ℕ) (p : Player) (old mid : Option (List ℕ)) → PieceAnswered 0 pending rest r input p old mid
+    → rest ≡ [] → HasNoLineFeed pending → pending ≢ [] → Halts Script r input p left old mid
+not_ended left pending rest r input p old mid first e clear some =
     let more : first.at.more ≡ pending = first.is.more ∙ ap (λ (t : List ℕ). pending ++ t) e ∙ append-nil pending in
-    is_bad pending rest r input p old mid first (inr (subst HasNoLineFeed (sym more) clear, λ none. some (sym more ∙ none)))
+    is_bad left pending rest r input p old mid first (inr (subst HasNoLineFeed (sym more) clear, λ none. some (sym more ∙ none)))
 
 -- the first line feed of a text, if there is one
 first_feed : (xs : List ℕ) → HasNoLineFeed xs ⊎ ((line rest : List ℕ) × HasNoLineFeed line × (xs ≡ line ++ 10 ∷ rest))
@@ -297,9 +298,9 @@ unfolding line_of
 too_long_line text h = rw (lt-ltb _ _ h) refl
 
 -- more bytes than a line may have, and no line feed among them
-pub too_long : (pending rest : List ℕ) (r : Run) (input : List ℕ) (p : Player) (old mid : Option (List ℕ)) → PieceAnswered 0 pending rest r input p old mid
-    → HasNoLineFeed pending → most_in_line < length pending → Halts Script r input p old mid
-too_long pending rest r input p old mid first clear long = is_bad pending rest r input p old mid first (elim (first_feed rest) [
+pub too_long : (left : Option (List ℕ)) (pending rest : List ℕ) (r : Run) (input : List ℕ) (p : Player) (old mid : Option (List ℕ)) → PieceAnswered 0 pending rest r input p old mid
+    → HasNoLineFeed pending → most_in_line < length pending → Halts Script r input p left old mid
+too_long left pending rest r input p old mid first clear long = is_bad left pending rest r input p old mid first (elim (first_feed rest) [
   | inl none ↦ inr (
     subst HasNoLineFeed (sym first.is.more) (All-append (λ (c : ℕ). c ≢ 10) pending rest clear none),
     λ e. absurd (omega (arith, ap length (sym first.is.more ∙ e), length-append pending rest)),
@@ -327,9 +328,9 @@ chunk_then n used pending grown piece left rest r input p q old mid new first e 
     piece_then used pending piece left rest (drop n rest) r input p q old mid new first (answer at) (f ∙ ap (drop used) (sym same))
 
 -- the next chunk: a line of it stopped the run
-pub chunk_halts : (status : Status) (n : ℕ) (pending grown piece rest : List ℕ) (r : Run) (input : List ℕ) (p q : Player) (old mid new : Option (List ℕ))
+pub chunk_halts : (left : Option (List ℕ)) (status : Status) (n : ℕ) (pending grown piece rest : List ℕ) (r : Run) (input : List ℕ) (p q : Player) (old mid new : Option (List ℕ))
     → (first : PieceAnswered 0 pending rest r input p old mid) → grown ≡ pending ++ take n rest → piece ≡ grown
-    → (IsAt first.at input p (piece ++ drop n rest) → Halts status first.at input q mid new) → Halts status r input q old new
-chunk_halts status n pending grown piece rest r input p q old mid new first e same answer =
+    → (IsAt first.at input p (piece ++ drop n rest) → Halts status first.at input q left mid new) → Halts status r input q left old new
+chunk_halts left status n pending grown piece rest r input p q old mid new first e same answer =
     let at : IsAt first.at input p (piece ++ drop n rest) = rw (same, e) (takes_more pending (take n rest) rest n r input p old mid first refl) in
-    halts_then status pending rest r input p q old mid new first (answer at)
+    halts_then left status pending rest r input p q old mid new first (answer at)

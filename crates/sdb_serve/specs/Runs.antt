@@ -54,45 +54,51 @@ last_line SourceFault n = ended (codes "stop 4")
 last_line SinkFault n = []
 last_line NoMemory n = ended (codes "stop 11")
 
--- the run may stop here with this status, whose last line is then written
-abbrev pub Stops : Status → Run → Type 0
-Stops Done r = r.more ≡ []
-Stops Script r = IsBad r
-Stops SourceFault r = Unit {0}
-Stops NoMemory r = Unit {0}
-Stops Usage r = ⊥
-Stops SinkFault r = ⊥
+-- The source gave no whole line that isn't answered yet: what was taken of the rest and isn't left there has no line
+-- feed.
+abbrev pub NoLineWaits : Option (List ℕ) → Run → Type 0
+NoLineWaits left r = (rest : List ℕ) → left ≡ Some rest → (taken : List ℕ) × HasNoLineFeed taken × (r.more ≡ taken ++ rest)
+
+-- The run may stop here with this status, whose last line is then written. `left` is what the source has left, where
+-- it tells.
+abbrev pub Stops : Status → Option (List ℕ) → Run → Type 0
+Stops Done left r = r.more ≡ []
+Stops Script left r = IsBad r
+Stops SourceFault left r = NoLineWaits left r
+Stops NoMemory left r = Unit {0}
+Stops Usage left r = ⊥
+Stops SinkFault left r = ⊥
 
 -- The run stopped with this status. Where the sink failed, it may have been anywhere.
-abbrev pub HasStopped : Status → Run → Type 0
-HasStopped Done r = Stops Done r
-HasStopped Script r = Stops Script r
-HasStopped SourceFault r = Stops SourceFault r
-HasStopped NoMemory r = Stops NoMemory r
-HasStopped Usage r = ⊥
-HasStopped SinkFault r = Unit {0}
+abbrev pub HasStopped : Status → Option (List ℕ) → Run → Type 0
+HasStopped Done left r = Stops Done left r
+HasStopped Script left r = Stops Script left r
+HasStopped SourceFault left r = Stops SourceFault left r
+HasStopped NoMemory left r = Stops NoMemory left r
+HasStopped Usage left r = ⊥
+HasStopped SinkFault left r = Unit {0}
 
 -- a line at which the sink can fail: the reply to the next line, or the last line of another status
-abbrev pub IsNextText : Run → List ℕ → Type 0
-IsNextText r text = IsAnswered r text ⊎ ((other : Status) × Stops other r × (text ≡ last_line other (length r.lines)))
+abbrev pub IsNextText : Option (List ℕ) → Run → List ℕ → Type 0
+IsNextText left r text = IsAnswered r text ⊎ ((other : Status) × Stops other left r × (text ≡ last_line other (length r.lines)))
 
 -- What the sink has got by a run that stopped with this status: the replies and the status's last line. Where the
 -- sink failed at a line, it got the replies before it and a prefix of it.
-abbrev pub IsWritten : Status → Run → List ℕ → Type 0
-IsWritten Done r text = text ≡ r.out ++ last_line Done (length r.lines)
-IsWritten Usage r text = ⊥
-IsWritten Script r text = text ≡ r.out ++ last_line Script (length r.lines)
-IsWritten SourceFault r text = text ≡ r.out ++ last_line SourceFault (length r.lines)
-IsWritten SinkFault r text = (last : List ℕ) × (n : ℕ) × IsNextText r last × (text ≡ r.out ++ take n last)
-IsWritten NoMemory r text = text ≡ r.out ++ last_line NoMemory (length r.lines)
+abbrev pub IsWritten : Status → Option (List ℕ) → Run → List ℕ → Type 0
+IsWritten Done left r text = text ≡ r.out ++ last_line Done (length r.lines)
+IsWritten Usage left r text = ⊥
+IsWritten Script left r text = text ≡ r.out ++ last_line Script (length r.lines)
+IsWritten SourceFault left r text = text ≡ r.out ++ last_line SourceFault (length r.lines)
+IsWritten SinkFault left r text = (last : List ℕ) × (n : ℕ) × IsNextText left r last × (text ≡ r.out ++ take n last)
+IsWritten NoMemory left r text = text ≡ r.out ++ last_line NoMemory (length r.lines)
 
--- What a run of this input did that ended with this status: old and new are what the sink had got and has got,
--- where it tells.
-pub record IsRunOf (status : Status) (input : List ℕ) (old new : Option (List ℕ)) : Type 0 where
+-- What a run of this input did that ended with this status: left is what the source has left, old and new are what the
+-- sink had got and has got, each where it tells.
+pub record IsRunOf (status : Status) (input : List ℕ) (left old new : Option (List ℕ)) : Type 0 where
   pub at : Run
   pub run : IsRun at input
-  pub stopped : HasStopped status at
-  pub written : (before : List ℕ) → old ≡ Some before → (text : List ℕ) × (new ≡ Some (before ++ text)) × IsWritten status at text
+  pub stopped : HasStopped status left at
+  pub written : (before : List ℕ) → old ≡ Some before → (text : List ℕ) × (new ≡ Some (before ++ text)) × IsWritten status left at text
 
 -- every line of the input is answered, and the last one is ended
 abbrev pub IsScript : List ℕ → Type 0

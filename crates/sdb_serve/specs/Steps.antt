@@ -61,21 +61,21 @@ pub record IsAt (r : Run) (input : List ℕ) (p : Player) (left : List ℕ) : Ty
   pub more : r.more ≡ left
 
 -- what the sink got by a run that stopped, before the status's last line is written
-abbrev pub IsHeld : Status → Run → List ℕ → Type 0
-IsHeld Done r text = text ≡ r.out
-IsHeld Usage r text = ⊥
-IsHeld Script r text = text ≡ r.out
-IsHeld SourceFault r text = text ≡ r.out
-IsHeld SinkFault r text = IsWritten SinkFault r text
-IsHeld NoMemory r text = text ≡ r.out
+abbrev pub IsHeld : Status → Option (List ℕ) → Run → List ℕ → Type 0
+IsHeld Done left r text = text ≡ r.out
+IsHeld Usage left r text = ⊥
+IsHeld Script left r text = text ≡ r.out
+IsHeld SourceFault left r text = text ≡ r.out
+IsHeld SinkFault left r text = IsWritten SinkFault left r text
+IsHeld NoMemory left r text = text ≡ r.out
 
 -- A run that had come to r with what the sink had got went on to a stop.
-pub record Halts (status : Status) (r : Run) (input : List ℕ) (p : Player) (old new : Option (List ℕ)) : Type 0 where
+pub record Halts (status : Status) (r : Run) (input : List ℕ) (p : Player) (left old new : Option (List ℕ)) : Type 0 where
   pub at : Run
   pub run : IsRun at input
   pub lines : status ≢ SinkFault → length at.lines ≡ p.lines
-  pub stopped : HasStopped status at
-  pub held : (before : List ℕ) → old ≡ Some (before ++ r.out) → (text : List ℕ) × (new ≡ Some (before ++ text)) × IsHeld status at text
+  pub stopped : HasStopped status left at
+  pub held : (before : List ℕ) → old ≡ Some (before ++ r.out) → (text : List ℕ) × (new ≡ Some (before ++ text)) × IsHeld status left at text
 
 -- The lines of a piece were answered: so much of it was used, and no line feed is left in it.
 pub record PieceAnswered (used : ℕ) (piece rest : List ℕ) (r : Run) (input : List ℕ) (p : Player) (old new : Option (List ℕ)) : Type 0 where

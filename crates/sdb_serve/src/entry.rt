@@ -73,7 +73,7 @@ fn close<K: Sink>(alloc: Global, sink: &mut K, status: Status, lines: u64) -> St
 /// Carries out the script of a source, and writes a reply line for each line to a sink, and then the last line of the
 /// status.
 fn run_script<S: Source, K: Sink>(alloc: Global, source: &mut S, sink: &mut K) -> Status
-    ensures replies { (input : List ℕ) → S.left source.old ≡ Some input → IsRunOf result input (K.got sink.old) (K.got sink.new) }
+    ensures replies { (input : List ℕ) → S.left source.old ≡ Some input → IsRunOf result input (S.left source.new) (K.got sink.old) (K.got sink.new) }
     ensures done { (input : List ℕ) → S.left source.old ≡ Some input → result ≡ Status.Done → S.left source.new ≡ Some [] }
     ensures source { result ≡ Status.SourceFault → Rose (S.fault_count source.old) (S.fault_count source.new) }
     ensures sink { result ≡ Status.SinkFault → Rose (K.fault_count sink.old) (K.fault_count sink.new) }
@@ -99,7 +99,7 @@ pub fn run<S: Source, K: Sink>(alloc: Global, words: &Words, source: &mut S, sin
 
     // There are lines that were read and a run of them; the sink has got the text of that run and the status's last line.
     ensures replies { words.now ≡ script_words → (input : List ℕ) → S.left source.old ≡ Some input
-        → IsRunOf result input (K.got sink.old) (K.got sink.new) }
+        → IsRunOf result input (S.left source.new) (K.got sink.old) (K.got sink.new) }
 
     // The source was read to its end.
     ensures done { (input : List ℕ) → S.left source.old ≡ Some input → result ≡ Status.Done → S.left source.new ≡ Some [] }
@@ -108,7 +108,8 @@ pub fn run<S: Source, K: Sink>(alloc: Global, words: &Words, source: &mut S, sin
     ensures source { result ≡ Status.SourceFault → Rose (S.fault_count source.old) (S.fault_count source.new) }
     ensures sink { result ≡ Status.SinkFault → Rose (K.fault_count sink.old) (K.fault_count sink.new) }
 
-    // Where no count rose, a script is answered whole, and any other input up to its first bad line, unless memory ran out.
+    // Where no count rose, a script is answered whole, and any other input up to its first bad line, whose number the
+    // last line then names, unless memory ran out.
     ensures completeness { (input : List ℕ) → words.now ≡ script_words → S.left source.old ≡ Some input → IsScript input
         → ¬ Rose (S.fault_count source.old) (S.fault_count source.new) → ¬ Rose (K.fault_count sink.old) (K.fault_count sink.new)
         → (result ≡ Status.Done) ⊎ (result ≡ Status.NoMemory) }

@@ -69,8 +69,8 @@ fn answer_lines<K: Sink>(
     requires within { from ≤ length piece.now }
     ensures answered { (input rest : List ℕ) (r : Run) → HasNoLineFeed (take from piece.now) → IsAt r input player.old (piece.now ++ rest)
         → IfOk result (λ used. PieceAnswered used piece.now rest r input player.new (K.got sink.old) (K.got sink.new)) }
-    ensures stopped { (input rest : List ℕ) (r : Run) → HasNoLineFeed (take from piece.now) → IsAt r input player.old (piece.now ++ rest)
-        → IfErr result (λ status. Halts status r input player.new (K.got sink.old) (K.got sink.new)) }
+    ensures stopped { (input rest : List ℕ) (r : Run) (left : Option (List ℕ)) → HasNoLineFeed (take from piece.now)
+        → IsAt r input player.old (piece.now ++ rest) → IfErr result (λ status. Halts status r input player.new left (K.got sink.old) (K.got sink.new)) }
     ensures none_left { HasNoLineFeed (take from piece.now) → IfOk result (λ used. HasNoLineFeed (drop used piece.now)) }
     ensures used { IfOk result (λ used. used ≤ length piece.now) }
     ensures read { IfOk result (λ used. player.new.read ≡ player.old.read + used) }
@@ -99,9 +99,9 @@ pub(crate) fn read_lines<S: Source, K: Sink>(
     sink: &mut K,
 ) -> Result<(), Status>
     ensures done { (input : List ℕ) (r : Run) → S.left source.old ≡ Some input → IsAt r input player.old input
-        → OnOk result (Halts Status.Done r input player.new (K.got sink.old) (K.got sink.new)) }
+        → OnOk result (Halts Status.Done r input player.new (S.left source.new) (K.got sink.old) (K.got sink.new)) }
     ensures stopped { (input : List ℕ) (r : Run) → S.left source.old ≡ Some input → IsAt r input player.old input
-        → IfErr result (λ status. Halts status r input player.new (K.got sink.old) (K.got sink.new)) }
+        → IfErr result (λ status. Halts status r input player.new (S.left source.new) (K.got sink.old) (K.got sink.new)) }
     ensures to_its_end { (input : List ℕ) → S.left source.old ≡ Some input → OnOk result (S.left source.new ≡ Some []) }
     ensures counted { (S.fault_count source.old ≤ S.fault_count source.new) × (K.fault_count sink.old ≤ K.fault_count sink.new) }
     ensures status { IfErr result StopsRun }
@@ -150,6 +150,7 @@ fn read_more<S: Source>(
     ensures len { IfOk result (λ n. vec_len pending.new ≡ vec_len pending.old + n) }
     ensures room { vec_len chunk.new ≡ vec_len chunk.old }
     ensures status { IfErr result (λ status. (status ≡ Status.SourceFault) ⊎ (status ≡ Status.NoMemory)) }
+    ensures unread { IsErrOf result Status.SourceFault → S.left source.new ≡ S.left source.old }
     ensures counted { S.fault_count source.old ≤ S.fault_count source.new }
     ensures cause { IsErrOf result Status.SourceFault → Rose (S.fault_count source.old) (S.fault_count source.new) }
 {

@@ -4,8 +4,8 @@ use Rattle.sdb_serve.proofs.entry.run.Goals as goal
 
 pub returns-then-is_script-clause-completeness : goal.returns-then-is_script-clause-completeness
 returns-then-is_script-clause-completeness g c = λ input words told script no_source no_sink.
-    complete c.run_script.result input _ _ (c.run_script.ensures.replies input told) script (λ e. no_source (c.run_script.ensures.source e)) (λ e. no_sink (c.run_script.ensures.sink e))
+    complete c.run_script.result input _ _ _ (c.run_script.ensures.replies input told) script (λ e. no_source (c.run_script.ensures.source e)) (λ e. no_sink (c.run_script.ensures.sink e))
 
 pub returns-then-is_script-clause-bad_line : goal.returns-then-is_script-clause-bad_line
 returns-then-is_script-clause-bad_line g c = λ input n words told bad no_source no_sink.
-    stops_at_bad c.run_script.result input n _ _ (c.run_script.ensures.replies input told) bad (λ e. no_source (c.run_script.ensures.source e)) (λ e. no_sink (c.run_script.ensures.sink e))
+    stops_at_bad c.run_script.result input n _ _ _ (c.run_script.ensures.replies input told) bad (λ e. no_source (c.run_script.ensures.source e)) (λ e. no_sink (c.run_script.ensures.sink e))

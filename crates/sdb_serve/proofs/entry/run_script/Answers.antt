@@ -7,11 +7,11 @@ use Rattle.sdb_serve.proofs.entry.run_script.Goals as goal
 
 pub returns-in-Ok-clause-replies : goal.returns-in-Ok-clause-replies
 returns-in-Ok-clause-replies g c = λ input told.
-    whole (at_start input) input c.read_lines.new.player _ _ refl (c.in-Ok.ensures.done input (at_start input) told (starts input c.new-player.result c.new-player.ensures.stands c.new-player.ensures.lines))
+    whole (at_start input) input c.read_lines.new.player _ _ _ refl (c.in-Ok.ensures.done input (at_start input) told (starts input c.new-player.result c.new-player.ensures.stands c.new-player.ensures.lines))
 
 pub returns-in-Err-SinkFault-clause-replies : goal.returns-in-Err-SinkFault-clause-replies
 returns-in-Err-SinkFault-clause-replies g c = λ input told.
-    cut_off c.in-Err-SinkFault.field-0 (at_start input) input c.read_lines.new.player _ _ c.in-Err-SinkFault.field-0-is refl
+    cut_off c.in-Err-SinkFault.field-0 (at_start input) input c.read_lines.new.player _ _ _ c.in-Err-SinkFault.field-0-is refl
     (c.in-Err-SinkFault.ensures.stopped input (at_start input) told (starts input c.new-player.result c.new-player.ensures.stands c.new-player.ensures.lines))
 
 pub returns : goal.returns
@@ -21,7 +21,7 @@ returns g c =
     let closed = c.close.ensures.closed in
     record {
       replies = λ input told.
-          closes status (at_start input) input c.read_lines.new.player _ _ _ c.close.result refl other
+          closes status (at_start input) input c.read_lines.new.player _ _ _ _ c.close.result refl other
           (c.in-Err.ensures.stopped input (at_start input) told (starts input c.new-player.result c.new-player.ensures.stands c.new-player.ensures.lines))
           (rw c.lines.ensures at closed);
       done = λ input told e. absurd (subst StopsRun (closed_is status _ c.close.result Done _ _ closed e (λ h. cc) (λ h. cc)) c.in-Err.ensures.status);

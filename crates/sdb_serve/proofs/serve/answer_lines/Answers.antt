@@ -21,11 +21,11 @@ lines-preserved g c =
     }
 
 pub returns-in-Err-clause-stopped : goal.returns-in-Err-clause-stopped
-returns-in-Err-clause-stopped g c = λ input rest r clear at.
+returns-in-Err-clause-stopped g c = λ input rest r left clear at.
     let found = c.in-Some.ensures in
     let piece = c.args.piece.now in
     let line = line_clear piece c.lines.start c.lines.seek c.in-Some.end found.0 (omega (arith, found.1)) (c.lines.invariant.clear clear) found.3 in
-    piece_stops c.in-Err.status c.lines.start c.in-Some.end piece rest r input c.lines.player c.answer_line.new.player _ _ _ (omega (arith, found.0)) found.1 found.2 line
+    piece_stops left c.in-Err.status c.lines.start c.in-Some.end piece rest r input c.lines.player c.answer_line.new.player _ _ _ (omega (arith, found.0)) found.1 found.2 line
     (c.lines.invariant.answered input rest r clear at) c.in-Err.ensures.stopped c.in-Err.ensures.same_lines
 
 pub returns-clause-none_left : goal.returns-clause-none_left

@@ -1,4 +1,5 @@
-use Rattle.std.proofs.Common.{◌≡◌, ◌∙◌, ℕ, List, take, drop, length, sym, ap, arith}
+use Rattle.std.proofs.Common.{◌≡◌, ◌∙◌, ℕ, List, take, drop, length, sym, ap, arith, Err}
+use Rattle.sdb_serve.specs.declared.status.Status.{Status}
 use Rattle.sdb_serve.specs.Runs.{HasNoLineFeed}
 use Rattle.sdb_serve.proofs.Answering.{nothing_in}
 use Rattle.sdb_serve.proofs.Closing.{line_status, reading_status}
@@ -31,7 +32,8 @@ chunks-preserved g c =
 pub returns-in-Err-clause-stopped : goal.returns-in-Err-clause-stopped
 returns-in-Err-clause-stopped g c = λ input r told at.
     let was = c.chunks.invariant.told input told in
-    reading_fails c.in-Err.status c.chunks.pending.items was.0 r input c.chunks.player _ _ c.in-Err.ensures.status (c.chunks.invariant.answered input was.0 r told was.1 at)
+    reading_fails _ c.in-Err.status c.chunks.pending.items was.0 r input c.chunks.player _ _ c.in-Err.ensures.status (c.chunks.invariant.answered input was.0 r told was.1 at)
+    c.chunks.invariant.clear (λ e. c.in-Err.ensures.unread (ap (λ (s : Status). Err s) e) ∙ was.1)
 
 pub returns-in-Err-answer_lines-clause-stopped : goal.returns-in-Err-answer_lines-clause-stopped
 returns-in-Err-answer_lines-clause-stopped g c = λ input r told at.
@@ -41,9 +43,9 @@ returns-in-Err-answer_lines-clause-stopped g c = λ input r told at.
     let was = c.chunks.invariant.told input told in
     let taken = more.taken was.0 was.1 in
     let first = c.chunks.invariant.answered input was.0 r told was.1 at in
-    chunk_halts c.in-Err-answer_lines.status c.in-Ok-read_more.field-0 c.chunks.pending.items c.read_more.new.pending.items c.deref.result.now
+    chunk_halts _ c.in-Err-answer_lines.status c.in-Ok-read_more.field-0 c.chunks.pending.items c.read_more.new.pending.items c.deref.result.now
     was.0 r input c.chunks.player c.answer_lines.new.player _ _ _ first taken.1 c.deref.ensures.value
-    (c.in-Err-answer_lines.ensures.stopped input (drop c.in-Ok-read_more.field-0 was.0) first.at front)
+    (c.in-Err-answer_lines.ensures.stopped input (drop c.in-Ok-read_more.field-0 was.0) first.at _ front)
 
 pub returns-then-len-gt-MOST_IN_LINE-clause-stopped : goal.returns-then-len-gt-MOST_IN_LINE-clause-stopped
 returns-then-len-gt-MOST_IN_LINE-clause-stopped g c = λ input r told at.
@@ -57,7 +59,7 @@ returns-then-len-gt-MOST_IN_LINE-clause-stopped g c = λ input r told at.
     let third = chunk_then c.in-Ok-read_more.field-0 c.in-Ok-answer_lines.used c.chunks.pending.items c.read_more.new.pending.items c.deref.result.now
     c.drop_front.new.bytes.items was.0 r input c.chunks.player c.answer_lines.new.player _ _ _ first taken.1 c.deref.ensures.value
     (done.answered input (drop c.in-Ok-read_more.field-0 was.0) first.at front) c.drop_front.ensures in
-    too_long c.drop_front.new.bytes.items _ r input c.answer_lines.new.player _ _ third
+    too_long _ c.drop_front.new.bytes.items _ r input c.answer_lines.new.player _ _ third
     (rw (c.drop_front.ensures, ← c.deref.ensures.value) (done.none_left front)) (omega (arith, c.len-in-chunks.ensures))
 
 pub returns-in-Err-clause-status : goal.returns-in-Err-clause-status
@@ -71,11 +73,11 @@ returns-then-len-eq0-clause-done g c = λ input r told at.
     let was = c.chunks.invariant.told input told in
     let end = c.in-Ok-eq0.ensures.end was.0 was.1 c.in-Ok-eq0.field-0-test in
     let none = nothing_in c.chunks.pending.items (omega (arith, c.len.ensures, c.if-len-eq0.true, c.in-Ok-eq0.ensures.len)) in
-    ends c.chunks.pending.items was.0 r input c.chunks.player _ _ (c.chunks.invariant.answered input was.0 r told was.1 at) end none
+    ends _ c.chunks.pending.items was.0 r input c.chunks.player _ _ (c.chunks.invariant.answered input was.0 r told was.1 at) end none
 
 pub returns-in-Ok-eq0-clause-stopped : goal.returns-in-Ok-eq0-clause-stopped
 returns-in-Ok-eq0-clause-stopped g c = λ input r told at.
     let was = c.chunks.invariant.told input told in
     let end = c.in-Ok-eq0.ensures.end was.0 was.1 c.in-Ok-eq0.field-0-test in
-    not_ended c.chunks.pending.items was.0 r input c.chunks.player _ _ (c.chunks.invariant.answered input was.0 r told was.1 at) end c.chunks.invariant.clear
+    not_ended _ c.chunks.pending.items was.0 r input c.chunks.player _ _ (c.chunks.invariant.answered input was.0 r told was.1 at) end c.chunks.invariant.clear
     (λ e. absurd (c.if-len-eq0.false (omega (arith, ap length e, c.len.ensures, c.in-Ok-eq0.field-0-test, c.in-Ok-eq0.ensures.len))))
