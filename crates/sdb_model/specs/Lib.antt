@@ -1,2 +1,4 @@
 pub use Rattle.trie_model.specs.State
+pub use Rattle.trie_model.specs.Node
+pub use Rattle.trie_model.specs.Trie
 pub mod Blocks

@@ -19,7 +19,7 @@ mod word;
 
 pub use laws::{known_lines, lines_are_read_as_written, numbers_are_decimals};
 pub use line::{Line, LineFault, LineReply};
-pub use parse::parse_line;
+pub use parse::{MOST_IN_LINE, parse_line};
 pub use text::reply_text;
 
 #[cfg(test)]

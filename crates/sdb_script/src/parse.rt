@@ -11,7 +11,8 @@ use sdb_base::{Block, BlockId};
 use sdb_model::Task;
 use std::alloc::Global;
 
-const MOST_IN_LINE: usize = 16777216;
+/// At most so many bytes are in a line, without its line feed.
+pub const MOST_IN_LINE: usize = 16777216;
 
 #[tactic(auto, unfolding(crate::specs::Grammar::is_blank))]
 fn is_blank(line: &[u8]) -> bool

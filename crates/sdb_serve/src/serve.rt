@@ -7,13 +7,11 @@ ghost use Rattle.sdb_serve.specs.Steps.{Halts, IsAt, IsHeld, LineAnswered, LineS
 use crate::player::{PlayFault, Player};
 use crate::status::Status;
 use sdb_io::{Sink, Source};
+use sdb_script::MOST_IN_LINE;
 use std::alloc::{AllocError, Global};
 
 // The source is asked for so many bytes at a time.
 const CHUNK: usize = 65536;
-
-// At most so many bytes are in a line, without its line feed.
-const MOST_IN_LINE: usize = 16777216;
 
 /// The place of the first line feed from `from` on.
 fn line_feed(bytes: &[u8], from: usize) -> Option<usize>
