@@ -29,3 +29,6 @@ pub type Words = Items<Bytes>;
 
 /// A call found no memory.
 pub type OutOfMemory = std::alloc::AllocError;
+
+#[cfg(test)]
+mod tests;

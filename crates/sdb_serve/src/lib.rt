@@ -19,3 +19,6 @@ mod status;
 pub use entry::run;
 pub use laws::first_bad_line_is_one;
 pub use status::Status;
+
+#[cfg(test)]
+mod tests;

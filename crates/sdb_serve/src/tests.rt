@@ -1,0 +1,200 @@
+use super::*;
+use sdb_base::{Bytes, Words};
+use sdb_io::{MemSink, MemSource};
+use std::alloc::{AllocError, Global};
+use std::test::*;
+
+// In the tables a bar ends a line.
+
+// Scripts that are answered to their end, and their replies.
+const ANSWERED: [(&str, &str); 10] = [
+    ("", ""),
+    (
+        "new 0|genesis 01 4 aa=01 bb=07|import 02 01 aa=02|import 03 01 aa=03|read 02 aa|read 03 aa|read 01 aa|read 02 bb|",
+        "new|genesis|import 1|import 1|value 02|value 03|value 01|value 07|",
+    ),
+    (
+        "new 0|genesis 01 256 aa=-|read 01 aa|read 01 -|read 02 aa|",
+        "new|genesis|value -|none|refused 1 UnknownBlock|",
+    ),
+    // both letter cases are read, and lower case is written
+    (
+        "new 0|genesis 01 4 aA=Bb|read 01 Aa|",
+        "new|genesis|value bb|",
+    ),
+    // a deleted key
+    (
+        "new 0|genesis 01 4 aa=01|import 02 01 aa!|read 02 aa|read 01 aa|",
+        "new|genesis|import 1|none|value 01|",
+    ),
+    // an id of 64 digits is that of its short form
+    (
+        "new 0|genesis 0000000000000000000000000000000000000000000000000000000000000001 4 aa=01|read 01 aa|",
+        "new|genesis|value 01|",
+    ),
+    // an unknown parent comes before an id that exists
+    (
+        "new 0|genesis 01 4|import 02 09|import 01 01|import 02 01|import 02 02|import 02 09|",
+        "new|genesis|refused 4 UnknownParent|refused 3 AlreadyExists|import 1|refused 3 AlreadyExists|refused 4 UnknownParent|",
+    ),
+    // changes apply in their order
+    (
+        "new 0|genesis 01 4 aa=01 aa=02 bb=01 bb!|read 01 aa|read 01 bb|",
+        "new|genesis|value 02|none|",
+    ),
+    // a chain of three
+    (
+        "new 0|genesis 01 4 aa=01|import 02 01 bb=02|import 03 02 aa=03|read 03 bb|read 03 aa|read 02 aa|",
+        "new|genesis|import 1|import 2|value 02|value 03|value 01|",
+    ),
+    ("# only a comment||", ""),
+];
+
+// Scripts that stop at a bad line, and what is written up to it.
+const STOPPED: [(&str, &str); 8] = [
+    // the last line has no line feed
+    ("new 0|genesis 01 4", "new|stop 3 line 2|"),
+    // comments and empty lines are counted
+    (
+        "# c||new 0||# x|genesis 01 4|read 1 aa|",
+        "new|genesis|stop 3 line 7|",
+    ),
+    // lines that may not stand where they stand
+    ("new 0|read 01 aa|", "new|stop 3 line 2|"),
+    ("new 0|genesis 01 4|new 0|", "new|genesis|stop 3 line 3|"),
+    (
+        "new 0|genesis 01 4|genesis 02 4|",
+        "new|genesis|stop 3 line 3|",
+    ),
+    ("genesis 01 4|", "stop 3 line 1|"),
+    // words that begin no line
+    ("open|", "stop 3 line 1|"),
+    ("new 0|genesis 01 4|canon 01|", "new|genesis|stop 3 line 3|"),
+];
+
+// Other words than the one word `script`.
+const OTHER_WORDS: [&[&str]; 5] = [
+    &[],
+    &["script", "x"],
+    &["-h"],
+    &["gen", "01", "5"],
+    &["scripts"],
+];
+
+// The call of the source and that of the sink that fail, the words, the input, the status and what is written.
+const FAULTS: [(Option<u64>, Option<u64>, &[&str], &str, Status, &str); 4] = [
+    (
+        None,
+        Some(2),
+        &["script"],
+        "new 0|genesis 01 4 aa=01 bb=07|import 02 01 aa=02|read 02 aa|",
+        Status::SinkFault,
+        "new|genesis|",
+    ),
+    (
+        Some(1),
+        None,
+        &["script"],
+        "new 0|",
+        Status::SourceFault,
+        "new|stop 4|",
+    ),
+    (None, Some(0), &["-h"], "", Status::SinkFault, ""),
+    (
+        None,
+        Some(1),
+        &["script"],
+        "new 0|read 01 aa|",
+        Status::SinkFault,
+        "new|",
+    ),
+];
+
+// The bytes of a text, with a line feed for each bar.
+fn lines(alloc: Global, text: &str) -> Result<Vec<u8>, AllocError> {
+    let mut bytes = Vec::from_slice(alloc, text.as_bytes())?;
+    for byte in bytes.iter_mut() {
+        if *byte == b'|' {
+            *byte = b'\n';
+        }
+    }
+    Ok(bytes)
+}
+
+// How a run over these words and this input ends, and what it writes. A call of the source and one of the sink may
+// be made to fail.
+fn outcome(
+    alloc: Global,
+    words: &[&str],
+    input: &[u8],
+    failing_take: Option<u64>,
+    failing_put: Option<u64>,
+) -> Result<(Status, Vec<u8>), AllocError> {
+    let mut list = Words::new(alloc);
+    for word in words {
+        list.push(Bytes::from_slice(alloc, word.as_bytes())?)?;
+    }
+    let mut source = MemSource::new(alloc, input)?;
+    if let Some(call) = failing_take {
+        source.fail_at(call)?;
+    }
+    let mut sink = MemSink::new(alloc);
+    if let Some(call) = failing_put {
+        sink.fail_at(call)?;
+    }
+    let status = run(alloc, &list, &mut source, &mut sink);
+    Ok((status, Vec::from_slice(alloc, sink.bytes())?))
+}
+
+#[test]
+fn replies_to_scripts(rt: HostRuntime) -> Result<(), Fail> {
+    let alloc = rt.alloc();
+    for (script, want) in ANSWERED {
+        let input = lines(alloc, script)?;
+        let (status, written) = outcome(alloc, &["script"], &input, None, None)?;
+        assert_eq!(rt; status, Status::Done, "{script}");
+        assert_eq!(rt; written, lines(alloc, want)?, "{script}");
+    }
+    for (script, want) in STOPPED {
+        let input = lines(alloc, script)?;
+        let (status, written) = outcome(alloc, &["script"], &input, None, None)?;
+        assert_eq!(rt; status, Status::Script, "{script}");
+        assert_eq!(rt; written, lines(alloc, want)?, "{script}");
+    }
+    Ok(())
+}
+
+#[test]
+fn other_words_and_faults(rt: HostRuntime) -> Result<(), Fail> {
+    let alloc = rt.alloc();
+    for words in OTHER_WORDS {
+        let (status, written) = outcome(alloc, words, b"new 0\n", None, None)?;
+        assert_eq!(rt; status, Status::Usage, "{words:?}");
+        assert_eq!(rt; written.as_slice(), b"stop 2\n".as_slice(), "{words:?}");
+    }
+    for (failing_take, failing_put, words, script, want_status, want) in FAULTS {
+        let input = lines(alloc, script)?;
+        let (status, written) = outcome(alloc, words, &input, failing_take, failing_put)?;
+        assert_eq!(rt; status, want_status, "{script}");
+        assert_eq!(rt; written, lines(alloc, want)?, "{script}");
+    }
+    Ok(())
+}
+
+#[test]
+fn a_number_has_at_most_32_blocks(rt: HostRuntime) -> Result<(), Fail> {
+    let alloc = rt.alloc();
+    let mut script = lines(alloc, "new 0|genesis 01 4|")?;
+    let mut want = lines(alloc, "new|genesis|")?;
+    for id in 2..34 {
+        let line = format!(in alloc; "import {id:02x} 01\n")?;
+        script.extend_from_slice(line.as_bytes())?;
+        want.extend_from_slice(b"import 1\n")?;
+    }
+    script.extend_from_slice(b"import 22 99\nimport 22 01\n")?;
+    want.extend_from_slice(b"refused 4 UnknownParent\nstop 3 line 36\n")?;
+    let (status, written) = outcome(alloc, &["script"], &script, None, None)?;
+    assert_eq!(rt; status, Status::Script);
+    assert_eq!(rt; written, want);
+    Ok(())
+}
