@@ -1,0 +1,10 @@
+use Rattle.std.proofs.Common.{◌≤◌, length}
+use Rattle.trie_codec.specs.Places.{IsPart}
+use Rattle.trie_codec.proofs.Places.{none_lent}
+use Rattle.trie_codec.proofs.reading.read_leaf.Goals as goal
+
+pub returns-clause-parts : goal.returns-clause-parts
+returns-clause-parts c = (c.in_ok-value.ensures.string, (λ i. none_lent (IsPart c.args.bytes) 16 i))
+
+pub invariant_of-leaf-clause-small : goal.invariant_of-leaf-clause-small
+invariant_of-leaf-clause-small c = λ i. none_lent (λ s. length s.now ≤ 32) 16 i

@@ -1,0 +1,6 @@
+pub mod Gives
+pub mod NodeParts
+pub mod Parts
+pub mod Places
+pub mod Reading
+pub mod Steps

@@ -1,0 +1,20 @@
+ghost use Rattle.std.specs.Prelude.{◌≡◌, [], ◌∷◌, ◌++◌, replicate, None, Some, Err, Ok};
+ghost use Rattle.trie_model.specs.Node.{empty_node};
+ghost use Rattle.trie_codec.specs.Reading.{node_of_bytes};
+
+use crate::fault::CodecFault;
+
+/// What some bytes read as, by computing: one of each fault, the node of the empty trie, a leaf, and a branch with an
+/// inline child.
+pub fn known_readings()
+    ensures short { node_of_bytes (0x42 ∷ (0xaa ∷ [])) ≡ Err CodecFault.Short }
+    ensures header { node_of_bytes (0x20 ∷ []) ≡ Err CodecFault.BadHeader }
+    ensures padding { node_of_bytes (0x41 ∷ (0xfa ∷ (0x04 ∷ (0x01 ∷ [])))) ≡ Err CodecFault.BadPadding }
+    ensures long_length { node_of_bytes (0x42 ∷ (0xaa ∷ (0x01 ∷ (0x00 ∷ [])))) ≡ Err CodecFault.BadLength }
+    ensures bitmap { node_of_bytes (0x80 ∷ (0x00 ∷ (0x00 ∷ []))) ≡ Err CodecFault.BadBitmap }
+    ensures trailing { node_of_bytes (0x42 ∷ (0xaa ∷ (0x04 ∷ (0x01 ∷ (0x99 ∷ []))))) ≡ Err CodecFault.Trailing }
+    ensures child { node_of_bytes (0x81 ∷ (0x00 ∷ (0x03 ∷ (0x00 ∷ (0x00 ∷ []))))) ≡ Err CodecFault.BadChild }
+    ensures empty { node_of_bytes (0x00 ∷ []) ≡ Ok empty_node }
+    ensures leaf { node_of_bytes (0x42 ∷ (0xaa ∷ (0x00 ∷ []))) ≡ Ok (record { partial = 10 ∷ (10 ∷ []); value = Some []; children = replicate 16 None }) }
+    ensures branch { node_of_bytes (0xc2 ∷ (0xaa ∷ (0x00 ∷ (0x08 ∷ (0x04 ∷ (0x01 ∷ (0x10 ∷ (0x41 ∷ (0x0b ∷ (0x04 ∷ (0x02 ∷ []))))))))))) ≡ Ok (record { partial = 10 ∷ (10 ∷ []); value = Some (1 ∷ []); children = replicate 11 None ++ (Some (0x41 ∷ (0x0b ∷ (0x04 ∷ (0x02 ∷ [])))) ∷ replicate 4 None) }) }
+{}

@@ -1,0 +1,23 @@
+//! Trie nodes and their bytes (Polkadot Host specification, state version 0).
+//!
+//! `NodeRef` reads a node and owns nothing: what it gives of the node are slices of its input. It reads exactly the
+//! spellings of nodes, and else names the first fault from the left; it takes no memory. `encode` writes the one
+//! spelling of a node's parts. Nodes and spellings stand in the crate of the trie's definitions, and the order of
+//! faults in `specs/Reading`. Which nodes make a trie is left to the layers above.
+#![tactic(auto)]
+
+mod fault;
+mod laws;
+mod node_ref;
+mod plain;
+mod reading;
+mod writing;
+
+pub use fault::CodecFault;
+pub use laws::known_readings;
+pub use node_ref::{ChildRef, Kind, NodeRef};
+pub use plain::{ChildList, Plain};
+pub use writing::encode;
+
+#[cfg(test)]
+mod tests;
