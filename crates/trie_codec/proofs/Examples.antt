@@ -1,10 +1,10 @@
 -- Parts that make a node.
-use Rattle.std.proofs.Common.{◌≡◌, ℕ, suc, ◌+◌, ◌^◌, ◌<◌, ◌≤◌, List, [], ◌∷◌, All, Option, Some, None, length, set, refl, ap, ◌∙◌, inl, inr, arith, lit<, lit≤}
+use Rattle.std.proofs.Common.{◌≡◌, ℕ, suc, ◌<◌, ◌≤◌, List, [], ◌∷◌, All, Option, Some, None, set, refl, ap, ◌∙◌, inl, inr, arith, lit<, lit≤}
 use Rattle.std.specs.Prelude.{replicate}
 use Rattle.std.proofs.lemmas.List.{length-replicate}
 use Rattle.std.proofs.lemmas.List.Elements.{All-replicate, All-set, All-cons}
 use Rattle.sdb_scale.specs.Compact.{compact}
-use Rattle.trie_model.specs.Node.{Node, IsPartial, IsText, IsChild, IsNode, IsNodeWithin, empty_node, spelling}
+use Rattle.trie_model.specs.Node.{Node, IsPartial, IsText, IsChild, IsNode, IsNodeWithin, spelling}
 
 -- no children
 abbrev pub childless : List (Option (List ℕ))

@@ -1,5 +1,4 @@
 -- The parts of a node as the writer takes them.
-use Rattle.sdb_base.specs.declared.Nibbles.{Nibbles}
 use Rattle.trie_model.specs.Node.{Node}
 use Rattle.trie_codec.specs.declared.plain.Plain.{Plain}
 

@@ -1,6 +1,5 @@
 ghost use Rattle.std.specs.Prelude.{◌≡◌, ◌^◌, ◌<◌, ◌≤◌, IfOk, None, Some, length, replicate};
-ghost use Rattle.trie_model.specs.Node.{IsNode, IsPartial, spelling};
-ghost use Rattle.trie_codec.specs.Parts.{node_of};
+ghost use Rattle.trie_model.specs.Node.{IsPartial, spelling};
 
 use super::*;
 use sdb_base::{Bytes, Nibbles, OutOfMemory};
