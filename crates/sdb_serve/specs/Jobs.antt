@@ -1,5 +1,5 @@
 -- What a job is answered over whole maps.
-use Rattle.std.specs.Prelude.{ℕ, ◌+◌, nat_le, Bool, List, [], ◌∷◌, if◌then◌else◌, Option, Some, None, is_some}
+use Rattle.std.specs.Prelude.{ℕ, ◌+◌, nat_le, List, ◌∷◌, if◌then◌else◌, Option, Some, None, is_some}
 use Rattle.std.specs.FinMap.{get}
 use Rattle.sdb_base.specs.declared.Block.{Block}
 use Rattle.sdb_model.specs.State.{State}

@@ -1,8 +1,8 @@
 -- The steps of a run: one line, the lines of a piece of the input, and the last line of a status.
-use Rattle.std.specs.Prelude.{◌≡◌, ◌≢◌, ◌⊎◌, ◌≤◌, ℕ, ◌+◌, ◌-◌, List, [], ◌∷◌, ◌++◌, length, take, drop, Option, Some, None, Result, Ok, Err}
+use Rattle.std.specs.Prelude.{◌≡◌, ◌≢◌, ◌⊎◌, ℕ, List, ◌++◌, length, take, drop, Option, Some, None}
 use Rattle.sdb_serve.specs.Session.{Session, line_played}
 use Rattle.sdb_serve.specs.Blocks.{Keeps}
-use Rattle.sdb_serve.specs.Runs.{HasNoLineFeed, HasStopped, IsNextText, IsRun, IsWritten, Run, last_line}
+use Rattle.sdb_serve.specs.Runs.{HasStopped, IsRun, IsWritten, Run, last_line}
 use Rattle.sdb_serve.specs.declared.player.Player.{Player}
 use Rattle.sdb_serve.specs.declared.status.Status.{Status}
 use Rattle.sdb_serve.specs.declared.status.Status.TheVariants.{Done, Usage, Script, SourceFault, SinkFault, NoMemory}

@@ -1,4 +1,4 @@
-use Rattle.std.proofs.Common.{◌≡◌, ◌∙◌, sym, ap, refl, List, [], ◌∷◌, ℕ}
+use Rattle.std.proofs.Common.{◌≡◌, ◌∙◌, sym, ap, List, [], ◌∷◌, ℕ}
 use Rattle.sdb_serve.proofs.Closing.{bytes_same, first_is, one_item, same_bytes}
 use Rattle.sdb_serve.proofs.entry.is_script.Goals as goal
 

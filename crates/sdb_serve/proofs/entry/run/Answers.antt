@@ -1,4 +1,3 @@
-use Rattle.std.proofs.Common.{◌≡◌}
 use Rattle.sdb_serve.proofs.Closing.{complete, stops_at_bad}
 use Rattle.sdb_serve.proofs.entry.run.Goals as goal
 

@@ -1,4 +1,4 @@
-use Rattle.std.proofs.Common.{◌≡◌, ◌≢◌, rules, refl, subst, ap, arith, Err}
+use Rattle.std.proofs.Common.{◌≢◌, rules, refl, subst, ap, arith, Err}
 use Rattle.sdb_serve.specs.declared.status.Status.TheVariants.{Done, Usage, SourceFault, SinkFault}
 use Rattle.sdb_serve.specs.declared.status.Status.{Status}
 use Rattle.sdb_serve.specs.Steps.{StopsRun}

@@ -1,4 +1,4 @@
-use Rattle.std.proofs.Common.{◌≡◌, ◌∙◌, sym, append-nil, [], List, ℕ}
+use Rattle.std.proofs.Common.{◌≡◌, ◌∙◌, sym, append-nil, []}
 use Rattle.sdb_serve.proofs.Answering.{no_items}
 use Rattle.sdb_serve.proofs.serve.answer_line.Goals as goal
 

@@ -1,7 +1,5 @@
-use Rattle.std.proofs.Common.{◌≡◌, ℕ, ◌≤◌, ◌<◌, refl, arith}
-use Rattle.std.specs.Prelude.{slice_range}
+use Rattle.std.proofs.Common.{arith}
 use Rattle.std.proofs.lemmas.List.Edits.{length-between}
-use Rattle.sdb_serve.specs.Runs.{HasNoLineFeed}
 use Rattle.sdb_serve.proofs.Running.{line_clear, piece_goes_on, piece_stops, rest_clear}
 use Rattle.sdb_serve.proofs.serve.answer_lines.Goals as goal
 

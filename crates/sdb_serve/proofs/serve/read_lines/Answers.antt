@@ -1,4 +1,4 @@
-use Rattle.std.proofs.Common.{◌≡◌, ◌∙◌, ℕ, List, take, drop, length, sym, ap, arith, Err}
+use Rattle.std.proofs.Common.{◌≡◌, ◌∙◌, take, drop, length, sym, ap, arith, Err}
 use Rattle.sdb_serve.specs.declared.status.Status.{Status}
 use Rattle.sdb_serve.specs.Runs.{HasNoLineFeed}
 use Rattle.sdb_serve.proofs.Answering.{nothing_in}

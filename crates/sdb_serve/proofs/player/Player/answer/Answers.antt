@@ -1,5 +1,4 @@
-use Rattle.std.proofs.Common.{◌≡◌, sym, ◌∙◌, refl, ap, rules, true, List, [], ◌∷◌}
-use Rattle.sdb_serve.specs.Steps.{Stands}
+use Rattle.std.proofs.Common.{◌≡◌, sym, ◌∙◌, refl, true, [], ◌∷◌}
 use Rattle.sdb_serve.proofs.Answering.{blank, genesis_again, genesis_early, genesis_first, job_early, job_is, job_none, new_again, new_first, no_test}
 use Rattle.sdb_serve.proofs.player.Player.answer.Goals as goal
 

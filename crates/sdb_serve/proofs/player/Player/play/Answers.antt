@@ -1,5 +1,4 @@
-use Rattle.std.proofs.Common.{◌≡◌, sym, ◌∙◌, refl, ap, arith, ◌+◌, length, Some, List, ℕ}
-use Rattle.sdb_serve.specs.Steps.{Stands}
+use Rattle.std.proofs.Common.{sym, ◌∙◌, ap, arith, ◌+◌, length, Some, List, ℕ}
 use Rattle.sdb_serve.proofs.Answering.{line_is, no_line, not_answered, too_far}
 use Rattle.sdb_serve.proofs.player.Player.play.Goals as goal
 
