@@ -82,11 +82,6 @@ string_at bytes = length_at bytes >>= λ n. bytes_at n.0 n.1
 abbrev pub is_nothing : List ℕ → Bool
 is_nothing bytes = bytes_eq bytes (0 ∷ [])
 
--- whether bit i of a bitmap is set
-abbrev pub has_bit : ℕ → ℕ → Bool
-has_bit map zero = map % 2 == 1
-has_bit map (suc i) = has_bit (map / 2) i
-
 -- how many of the low n bits are set
 abbrev pub bits_set : ℕ → ℕ → ℕ
 bits_set map zero = 0
