@@ -14,3 +14,6 @@ pub use laws::{
     ends_share_the_prefix, keys_rise_in_nibbles, more_levels_change_nothing,
     order_stays_below_the_shared_prefix, prefixes_follow_one_another,
 };
+
+#[cfg(test)]
+mod tests;
