@@ -36,6 +36,12 @@ nibble_eleven = record { nibbles = All-cons (λ n. n < 16) 11 [] (lit< tt) (none
 pub two_nibbles : IsPartial (10 ∷ (10 ∷ []))
 two_nibbles = record { nibbles = All-cons (λ n. n < 16) 10 (10 ∷ []) (lit< tt) nibble_ten.nibbles; short = lit≤ tt }
 
+pub three_nibbles : IsPartial (1 ∷ (2 ∷ (3 ∷ [])))
+three_nibbles = let P : ℕ → Type 0 = λ n. n < 16 in record {
+  nibbles = All-cons P 1 (2 ∷ (3 ∷ [])) (lit< tt) (All-cons P 2 (3 ∷ []) (lit< tt) (All-cons P 3 [] (lit< tt) (none_below P)));
+  short = lit≤ tt;
+}
+
 pub zero_nibbles : (n : ℕ) → n ≤ 2048 → IsPartial (replicate n 0)
 zero_nibbles n h = record { nibbles = All-replicate (λ k. k < 16) n 0 (lit< tt); short = omega (arith, length-replicate {A = ℕ} n 0) }
 

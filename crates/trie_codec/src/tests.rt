@@ -168,6 +168,15 @@ fn leaves(rt: HostRuntime) -> Result<(), Fail> {
     Ok(())
 }
 
+// An odd partial key has its zero half in front, not behind its last nibble.
+#[test]
+#[tactic(auto, using(crate::proofs::Examples::three_nibbles))]
+fn an_odd_partial_key(rt: HostRuntime) -> Result<(), Fail> {
+    let spelled = leaf(rt.alloc(), &[1, 2, 3], b"\x04")?;
+    assert_eq!(rt; spelled.as_slice(), b"\x43\x01\x23\x04\x04".as_slice());
+    Ok(())
+}
+
 #[test]
 #[tactic(auto, using(crate::proofs::Examples::nibble_eleven))]
 fn branch_with_a_value(rt: HostRuntime) -> Result<(), Fail> {
