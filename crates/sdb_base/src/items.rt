@@ -14,7 +14,6 @@ pub trait TryCopy: Drop + Sized {
 /// A list, in the order in which its items were pushed.
 #[derive(Debug, Drop)]
 pub struct Items<T> {
-    alloc: Global,
     items: Vec<T>,
 }
 
@@ -35,7 +34,6 @@ impl<T> Items<T> {
         ensures { result ≡ [] }
     {
         Items {
-            alloc,
             items: Vec::new(alloc),
         }
     }

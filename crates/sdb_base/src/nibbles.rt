@@ -51,6 +51,21 @@ impl Nibbles {
         })
     }
 
+    /// The nibbles of `items`, without taking memory.
+    pub fn from_vec(items: Vec<u8>) -> Nibbles
+        ensures { result ≡ items.items }
+    {
+        Nibbles { items }
+    }
+
+    /// The nibbles, without taking memory.
+    pub fn into_vec(self) -> Vec<u8>
+        ensures { result.items ≡ self }
+    {
+        let Nibbles { items } = self;
+        items
+    }
+
     /// Adds a nibble at the end. An `Err` changes nothing.
     pub fn push(&mut self, nibble: u8) -> Result<(), OutOfMemory>
         ensures ok { OnOk result (self.new ≡ self.old ++ nibble ∷ []) }

@@ -1,4 +1,4 @@
-use Rattle.std.proofs.Common.{◌≡◌, ◌<◌, ◌∙◌, length, sym, take, get_or, arith}
+use Rattle.std.proofs.Common.{sym, take, get_or}
 use Rattle.std.proofs.lemmas.List.{take_more}
 use Rattle.sdb_base.proofs.Halves.{nibbles_of-push}
 use Rattle.sdb_base.proofs.nibbles.Nibbles.of_key.Goals as goal
