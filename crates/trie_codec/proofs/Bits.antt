@@ -41,7 +41,7 @@ bits_set-ones (suc d) n lt =
 pub bits_set_of_16 : (n : ℕ) → n < 2 ^ 16 → ones n ≡ bits_set n 16
 bits_set_of_16 n lt = sym (bits_set-ones 16 n lt)
 
-unmarked : (kind map count : ℕ) → (map ≡ 0 → ⊥) → (count ≡ 1 → kind ≡ 2 → ⊥) → ((map == 0) || ((count == 1) && (kind == 2))) ≡ false
+pub unmarked : (kind map count : ℕ) → (map ≡ 0 → ⊥) → (count ≡ 1 → kind ≡ 2 → ⊥) → ((map == 0) || ((count == 1) && (kind == 2))) ≡ false
 unmarked kind map count some enough = grind (arith, nat_tests)
 
 -- a bitmap that is no fault

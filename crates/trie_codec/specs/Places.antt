@@ -1,20 +1,28 @@
 -- Where slices that are lent lie in the input.
-use Rattle.std.specs.Prelude.{◌≡◌, ℕ, ◌+◌, ◌-◌, ◌≤◌, List, length, slice_range, IfSome}
+use Rattle.std.specs.Prelude.{◌≡◌, ℕ, ◌+◌, ◌-◌, ◌≤◌, List, drop, length, slice_range, IfSome}
+use Rattle.std.specs.List.{flat_map}
 use Rattle.std.specs.Borrow.{Bor}
-use Rattle.trie_codec.specs.NodeParts.{child_lent, value_lent}
+use Rattle.trie_model.specs.Node.{Node, optional_string}
+use Rattle.trie_codec.specs.NodeParts.{child_lent, parts_of, value_lent}
 use Rattle.trie_codec.specs.declared.node_ref.NodeRef.{NodeRef}
 
 -- how many bytes behind the input's first one a slice begins
 abbrev pub place_in : Bor (List ℕ) → Bor (List ℕ) → ℕ
 place_in input part = part.ref_ptr.1 - input.ref_ptr.1
 
--- a slice is a part of the input: it lies within it, and has the bytes that stand at its place
-pub record IsPart (input part : Bor (List ℕ)) : Type 0 where
+-- A slice is the part of the input behind which so many bytes stand: it lies in the input's memory, has the bytes that stand at its place, and ends so many bytes before the input does.
+pub record IsPart (input part : Bor (List ℕ)) (behind : ℕ) : Type 0 where
   pub block : part.ref_ptr.0 ≡ input.ref_ptr.0
   pub begins : input.ref_ptr.1 ≤ part.ref_ptr.1
-  pub ends : place_in input part + length part.now ≤ length input.now
+  pub ends : place_in input part + length part.now + behind ≡ length input.now
   pub bytes : part.now ≡ slice_range input.now (place_in input part) (place_in input part + length part.now)
 
--- the value and each child that a node lends are parts of the input
-abbrev pub LendsParts : Bor (List ℕ) → NodeRef → Type 0
-LendsParts input r = IfSome (value_lent r) (IsPart input) × ((i : ℕ) → IfSome (child_lent r i) (IsPart input))
+-- the spelling of a node's children from one on
+abbrev pub children_from : ℕ → Node → List ℕ
+children_from i n = flat_map optional_string (drop i n.children)
+
+-- Where a node's value and children lie in an input that has so many bytes behind the node: all children stand behind the value, and the later children behind a child.
+abbrev pub LendsParts : Bor (List ℕ) → NodeRef → ℕ → Type 0
+LendsParts input r behind =
+    IfSome (value_lent r) (λ v. IsPart input v (length (children_from 0 (parts_of r)) + behind))
+    × ((i : ℕ) → IfSome (child_lent r i) (λ c. IsPart input c (length (children_from (i + 1) (parts_of r)) + behind)))

@@ -1,6 +1,6 @@
-ghost use Rattle.std.specs.Prelude.{◌≡◌, [], ◌∷◌, ◌++◌, replicate, None, Some, Err, Ok};
-ghost use Rattle.trie_model.specs.Node.{empty_node};
-ghost use Rattle.trie_codec.specs.Reading.{node_of_bytes};
+ghost use Rattle.std.specs.Prelude.{◌≡◌, ℕ, ◌<◌, List, [], ◌∷◌, ◌++◌, All, replicate, None, Some, Err, Ok};
+ghost use Rattle.trie_model.specs.Node.{IsNode, Node, empty_node, spelling};
+ghost use Rattle.trie_codec.specs.Reading.{node_at, node_of_bytes, reads_inline};
 
 use crate::fault::CodecFault;
 
@@ -17,4 +17,19 @@ pub fn known_readings()
     ensures empty { node_of_bytes (0x00 ∷ []) ≡ Ok empty_node }
     ensures leaf { node_of_bytes (0x42 ∷ (0xaa ∷ (0x00 ∷ []))) ≡ Ok (record { partial = 10 ∷ (10 ∷ []); value = Some []; children = replicate 16 None }) }
     ensures branch { node_of_bytes (0xc2 ∷ (0xaa ∷ (0x00 ∷ (0x08 ∷ (0x04 ∷ (0x01 ∷ (0x10 ∷ (0x41 ∷ (0x0b ∷ (0x04 ∷ (0x02 ∷ []))))))))))) ≡ Ok (record { partial = 10 ∷ (10 ∷ []); value = Some (1 ∷ []); children = replicate 11 None ++ (Some (0x41 ∷ (0x0b ∷ (0x04 ∷ (0x02 ∷ [])))) ∷ replicate 4 None) }) }
+{}
+
+/// What is written is read: in front of any bytes a node's spelling reads as the node, and ends where it ends. So no two
+/// nodes share a spelling, and none begins another.
+pub fn what_is_written_is_read()
+    ensures front { (n : Node) (rest : List ℕ) → IsNode n → node_at (reads_inline 32) (spelling n ++ rest) ≡ Ok (n, rest) }
+    ensures whole { (n : Node) → IsNode n → node_of_bytes (spelling n) ≡ Ok n }
+    ensures one { (m n : Node) (x y : List ℕ) → IsNode m → IsNode n → spelling m ++ x ≡ spelling n ++ y → (m ≡ n) × (x ≡ y) }
+{}
+
+/// What is read was written: bytes that read as a node are its spelling, and its parts are those of a node.
+pub fn what_is_read_was_written()
+    ensures front { (n : Node) (bytes rest : List ℕ) → All (λ b. b < 256) bytes → node_at (reads_inline 32) bytes ≡ Ok (n, rest)
+        → IsNode n × (bytes ≡ spelling n ++ rest) }
+    ensures whole { (n : Node) (bytes : List ℕ) → All (λ b. b < 256) bytes → node_of_bytes bytes ≡ Ok n → IsNode n × (bytes ≡ spelling n) }
 {}

@@ -1,5 +1,8 @@
-ghost use Rattle.std.specs.Prelude.{◌≡◌, ◌+◌, ◌%◌, ◌/◌, ◌≤◌, ℕ, List, None, length, map, drop, slice_index_or, IfErr, IfOk, IfSome, Err, Ok};
+ghost use Rattle.std.specs.Prelude.{◌≡◌, ◌+◌, ◌%◌, ◌/◌, ◌≤◌, ℕ, List, None, length, map, drop, slice_index_or, IfErr, IfOk, IfSome, IsOkAnd, Err, Ok};
+ghost use Rattle.std.specs.List.{flat_map};
 ghost use Rattle.sdb_base.specs.Nibbles.{nibbles_of};
+ghost use Rattle.sdb_scale.specs.Compact.{string};
+ghost use Rattle.trie_model.specs.Node.{IsNode, Node, optional_string, spelling};
 ghost use Rattle.trie_codec.specs.Gives.{Gives, bytes_in};
 ghost use Rattle.trie_codec.specs.NodeParts.{parts_of};
 ghost use Rattle.trie_codec.specs.Places.{IsPart, LendsParts};
@@ -26,8 +29,8 @@ struct Header {
 fn take_bytes(count: usize, bytes: &[u8]) -> Result<(&[u8], &[u8]), CodecFault>
     ensures gives { Gives (λ x. (x.0.now, x.1.now)) result (bytes_at count bytes.now) }
     ensures len { IfOk result (λ x. length x.0.now ≡ count) }
-    ensures front { IfOk result (λ x. IsPart bytes.entry x.0) }
-    ensures rest { IfOk result (λ x. IsPart bytes.entry x.1) }
+    ensures front { IfOk result (λ x. IsPart bytes.entry x.0 (length x.1.now)) }
+    ensures rest { IfOk result (λ x. IsPart bytes.entry x.1 0) }
 {
     if bytes.len() < count {
         return Err(CodecFault::Short);
@@ -40,7 +43,7 @@ fn take_bytes(count: usize, bytes: &[u8]) -> Result<(&[u8], &[u8]), CodecFault>
 fn read_count(bytes: &[u8]) -> Result<(usize, &[u8]), CodecFault>
     ensures gives { Gives (λ x. (x.0, x.1.now)) result (count_at 63 bytes.now) }
     ensures few { IfOk result (λ x. x.0 ≤ 2048) }
-    ensures rest { IfOk result (λ x. IsPart bytes.entry x.1) }
+    ensures rest { IfOk result (λ x. IsPart bytes.entry x.1 0) }
 {
     let mut count = 63;
     for (i, more) in bytes.iter().enumerate() {
@@ -60,7 +63,7 @@ fn read_count(bytes: &[u8]) -> Result<(usize, &[u8]), CodecFault>
 fn read_header(bytes: &[u8]) -> Result<(Header, &[u8]), CodecFault>
     ensures gives { Gives (λ x. ((x.0.kind, x.0.nibbles), x.1.now)) result (header_at bytes.now) }
     ensures few { IfOk result (λ x. x.0.nibbles ≤ 2048) }
-    ensures rest { IfOk result (λ x. IsPart bytes.entry x.1) }
+    ensures rest { IfOk result (λ x. IsPart bytes.entry x.1 0) }
 {
     let [first, rest @ ..] = bytes else {
         return Err(CodecFault::Short);
@@ -92,7 +95,7 @@ fn read_partial(nibbles: usize, bytes: &[u8]) -> Result<(&[u8], &[u8]), CodecFau
     requires { nibbles ≤ 2048 }
     ensures gives { Gives (λ x. (drop (nibbles % 2) (nibbles_of x.0.now), x.1.now)) result (partial_at nibbles bytes.now) }
     ensures whole { IfOk result (λ x. length x.0.now ≡ (nibbles + 1) / 2) }
-    ensures rest { IfOk result (λ x. IsPart bytes.entry x.1) }
+    ensures rest { IfOk result (λ x. IsPart bytes.entry x.1 0) }
 {
     if nibbles % 2 == 1 {
         let [first, ..] = bytes else {
@@ -109,7 +112,7 @@ fn read_partial(nibbles: usize, bytes: &[u8]) -> Result<(&[u8], &[u8]), CodecFau
 #[tactic(auto, unfolding(crate::specs::Reading::length_at))]
 fn read_length(bytes: &[u8]) -> Result<(usize, &[u8]), CodecFault>
     ensures gives { Gives (λ x. (x.0, x.1.now)) result (length_at bytes.now) }
-    ensures rest { IfOk result (λ x. IsPart bytes.entry x.1) }
+    ensures rest { IfOk result (λ x. IsPart bytes.entry x.1 0) }
 {
     let [first, rest @ ..] = bytes else {
         return Err(CodecFault::Short);
@@ -144,8 +147,8 @@ fn read_length(bytes: &[u8]) -> Result<(usize, &[u8]), CodecFault>
 #[tactic(auto, unfolding(crate::specs::Reading::string_at))]
 fn read_string(bytes: &[u8]) -> Result<(&[u8], &[u8]), CodecFault>
     ensures gives { Gives (λ x. (x.0.now, x.1.now)) result (string_at bytes.now) }
-    ensures string { IfOk result (λ x. IsPart bytes.entry x.0) }
-    ensures rest { IfOk result (λ x. IsPart bytes.entry x.1) }
+    ensures string { IfOk result (λ x. IsPart bytes.entry x.0 (length x.1.now)) }
+    ensures rest { IfOk result (λ x. IsPart bytes.entry x.1 0) }
 {
     let (len, rest) = read_length(bytes)?;
     take_bytes(len, rest)
@@ -154,8 +157,8 @@ fn read_string(bytes: &[u8]) -> Result<(&[u8], &[u8]), CodecFault>
 // The value of a branch, which one of kind 3 has.
 fn read_value(kind: u8, bytes: &[u8]) -> Result<(Option<&[u8]>, &[u8]), CodecFault>
     ensures gives { Gives (λ x. (bytes_in x.0, x.1.now)) result (value_at kind bytes.now) }
-    ensures value { IfOk result (λ x. IfSome x.0 (IsPart bytes.entry)) }
-    ensures rest { IfOk result (λ x. IsPart bytes.entry x.1) }
+    ensures value { IfOk result (λ x. IfSome x.0 (λ v. IsPart bytes.entry v (length x.1.now))) }
+    ensures rest { IfOk result (λ x. IsPart bytes.entry x.1 0) }
 {
     if kind != 3 {
         return Ok((None, bytes));
@@ -168,7 +171,7 @@ fn read_value(kind: u8, bytes: &[u8]) -> Result<(Option<&[u8]>, &[u8]), CodecFau
 #[tactic(auto, using(crate::proofs::Bits::bits_set_of_16))]
 fn read_bitmap(kind: u8, bytes: &[u8]) -> Result<(u16, &[u8]), CodecFault>
     ensures gives { Gives (λ x. (x.0, x.1.now)) result (bitmap_at kind bytes.now) }
-    ensures rest { IfOk result (λ x. IsPart bytes.entry x.1) }
+    ensures rest { IfOk result (λ x. IsPart bytes.entry x.1 0) }
 {
     let [low, high, rest @ ..] = bytes else {
         return Err(CodecFault::Short);
@@ -204,8 +207,9 @@ fn reads_alone(depth: u8, bytes: &[u8]) -> bool
 fn read_child(depth: u8, bytes: &[u8]) -> Result<(&[u8], &[u8]), CodecFault>
     ensures gives { Gives (λ x. (x.0.now, x.1.now)) result (child_at (reads_inline depth) bytes.now) }
     ensures small { IfOk result (λ x. length x.0.now ≤ 32) }
-    ensures child { IfOk result (λ x. IsPart bytes.entry x.0) }
-    ensures rest { IfOk result (λ x. IsPart bytes.entry x.1) }
+    ensures child { IfOk result (λ x. IsPart bytes.entry x.0 (length x.1.now)) }
+    ensures took { IfOk result (λ x. length bytes.now ≡ length (string x.0.now) + length x.1.now) }
+    ensures rest { IfOk result (λ x. IsPart bytes.entry x.1 0) }
 {
     let (len, rest) = read_length(bytes)?;
     if len == 0 || len > 32 {
@@ -227,8 +231,9 @@ fn read_lowest_child(
 ) -> Result<(Option<&[u8]>, &[u8]), CodecFault>
     ensures gives { Gives (λ x. (bytes_in x.0, x.1.now)) result (lowest_child_at (reads_inline depth) bits bytes.now) }
     ensures small { IfOk result (λ x. IfSome x.0 (λ c. length c.now ≤ 32)) }
-    ensures child { IfOk result (λ x. IfSome x.0 (IsPart bytes.entry)) }
-    ensures rest { IfOk result (λ x. IsPart bytes.entry x.1) }
+    ensures child { IfOk result (λ x. IfSome x.0 (λ c. IsPart bytes.entry c (length x.1.now))) }
+    ensures took { IfOk result (λ x. length bytes.now ≡ length (optional_string (bytes_in x.0)) + length x.1.now) }
+    ensures rest { IfOk result (λ x. IsPart bytes.entry x.1 0) }
 {
     if bits % 2 == 0 {
         return Ok((None, bytes));
@@ -249,8 +254,10 @@ struct Children<'a> {
 fn read_children(depth: u8, bits: u16, bytes: &[u8]) -> Result<Children<'_>, CodecFault>
     ensures gives { Gives (λ c. (map bytes_in c.found, c.rest.now)) result (children_at (reads_inline depth) 16 bits bytes.now) }
     ensures small { IfOk result (λ c. (i : ℕ) → IfSome (slice_index_or c.found i None) (λ s. length s.now ≤ 32)) }
-    ensures children { IfOk result (λ c. (i : ℕ) → IfSome (slice_index_or c.found i None) (IsPart bytes.entry)) }
-    ensures rest { IfOk result (λ c. IsPart bytes.entry c.rest) }
+    ensures children { IfOk result (λ c. (i : ℕ) → IfSome (slice_index_or c.found i None)
+        (λ s. IsPart bytes.entry s (length (flat_map optional_string (map bytes_in (drop (i + 1) c.found))) + length c.rest.now))) }
+    ensures rest { IfOk result (λ c. IsPart bytes.entry c.rest 0) }
+    ensures took { IfOk result (λ c. length bytes.now ≡ length (flat_map optional_string (map bytes_in c.found)) + length c.rest.now) }
 {
     let mut children = Children {
         found: [None; 16],
@@ -275,8 +282,8 @@ fn read_leaf<'a>(
     requires short { partial_len ≤ 2048 }
     requires whole { length partial.now ≡ (partial_len + 1) / 2 }
     ensures gives { Gives (λ x. (parts_of x.0, x.1.now)) result (leaf_at (drop (partial_len % 2) (nibbles_of partial.now)) bytes.now) }
-    ensures parts { IfOk result (λ x. LendsParts bytes.entry x.0) }
-    ensures rest { IfOk result (λ x. IsPart bytes.entry x.1) }
+    ensures parts { IfOk result (λ x. LendsParts bytes.entry x.0 (length x.1.now)) }
+    ensures rest { IfOk result (λ x. IsPart bytes.entry x.1 0) }
 {
     let (value, rest) = read_string(bytes)?;
     let leaf = NodeRef {
@@ -300,8 +307,8 @@ fn read_branch<'a>(
     requires whole { length partial.now ≡ (header.nibbles + 1) / 2 }
     ensures gives { Gives (λ x. (parts_of x.0, x.1.now)) result
         (branch_at (reads_inline depth) header.kind (drop (header.nibbles % 2) (nibbles_of partial.now)) bytes.now) }
-    ensures parts { IfOk result (λ x. LendsParts bytes.entry x.0) }
-    ensures rest { IfOk result (λ x. IsPart bytes.entry x.1) }
+    ensures parts { IfOk result (λ x. LendsParts bytes.entry x.0 (length x.1.now)) }
+    ensures rest { IfOk result (λ x. IsPart bytes.entry x.1 0) }
 {
     let (bits, rest) = read_bitmap(header.kind, bytes)?;
     let (value, rest) = read_value(header.kind, rest)?;
@@ -320,8 +327,8 @@ fn read_branch<'a>(
 #[tactic(auto, unfolding(crate::specs::Reading::node_at))]
 fn read_node(depth: u8, bytes: &[u8]) -> Result<(NodeRef<'_>, &[u8]), CodecFault>
     ensures gives { Gives (λ x. (parts_of x.0, x.1.now)) result (node_at (reads_inline depth) bytes.now) }
-    ensures parts { IfOk result (λ x. LendsParts bytes.entry x.0) }
-    ensures rest { IfOk result (λ x. IsPart bytes.entry x.1) }
+    ensures parts { IfOk result (λ x. LendsParts bytes.entry x.0 (length x.1.now)) }
+    ensures rest { IfOk result (λ x. IsPart bytes.entry x.1 0) }
 {
     let (header, rest) = read_header(bytes)?;
     if header.kind == 0 {
@@ -347,8 +354,12 @@ impl<'a> NodeRef<'a> {
     #[tactic(auto, unfolding(crate::specs::Reading::node_of_bytes))]
     pub fn read(bytes: &'a [u8]) -> Result<NodeRef<'a>, CodecFault>
         ensures found { IfOk result (λ r. node_of_bytes bytes.entry.now ≡ Ok (parts_of r)) }
-        // The value and the children are lent from the input, each from its place there.
-        ensures lent { IfOk result (LendsParts bytes.entry) }
+        // What is read is the spelling of its parts, and these are the parts of a node.
+        ensures spelled { IfOk result (λ r. IsNode (parts_of r) × (bytes.entry.now ≡ spelling (parts_of r))) }
+        // The spelling of a node is read, as that node.
+        ensures only { (n : Node) → IsNode n → bytes.entry.now ≡ spelling n → IsOkAnd result (λ r. parts_of r ≡ n) }
+        // The value and the children are lent from the input, each from where it stands in the node's spelling.
+        ensures lent { IfOk result (λ r. LendsParts bytes.entry r 0) }
         ensures fault { IfErr result (λ f. node_of_bytes bytes.entry.now ≡ Err f) }
     {
         let (node, rest) = read_node(MOST_LEVELS, bytes)?;

@@ -1,40 +1,67 @@
-ghost use Rattle.std.specs.Prelude.{◌≡◌, ◌^◌, ◌<◌, ◌≤◌, IfOk, None, Some, length, replicate};
-ghost use Rattle.trie_model.specs.Node.{IsPartial, spelling};
+ghost use Rattle.std.specs.Prelude.{◌≡◌, ◌<◌, All, IfOk, IfSome, IsTrue, length};
+ghost use Rattle.trie_model.specs.Node.{IsPartial, IsShort};
 
 use super::*;
 use sdb_base::{Bytes, Nibbles, OutOfMemory};
 use std::alloc::Global;
 use std::test::*;
 
-// Bytes that are no node, and their first fault. Those of a partial key that is too long are below.
-const REFUSED: [(&[u8], CodecFault); 26] = [
+// Bytes that are no node, and their first fault. Where two faults could be named, the second stands behind it.
+const REFUSED: [(&[u8], CodecFault); 37] = [
     (b"", CodecFault::Short),
     (b"\x42\xaa", CodecFault::Short),
     (b"\x7f", CodecFault::Short),
     (b"\x7f\xff", CodecFault::Short),
     (b"\x41", CodecFault::Short),
     (b"\x42\xaa\x04", CodecFault::Short),
+    (b"\x42\xaa\x01", CodecFault::Short),
+    (b"\x42\xaa\x02\x00\x00", CodecFault::Short),
     (b"\x80\x00", CodecFault::Short),
     (b"\xc0\x01\x00\x00", CodecFault::Short),
     (b"\xc0\x01\x00\x00\x7c\x41\x00", CodecFault::Short),
+    (b"\xc0\x01\x00\x00\x80\x41\x00", CodecFault::Short),
     (b"\x20", CodecFault::BadHeader),
     (b"\x01", CodecFault::BadHeader),
+    // bytes behind what is no header
+    (b"\x3f\x00", CodecFault::BadHeader),
+    // 2,049 nibbles, though no byte follows
+    (
+        b"\x7f\xff\xff\xff\xff\xff\xff\xff\xc9",
+        CodecFault::BadHeader,
+    ),
+    // a count that passes 2,048, though no count ends
+    (
+        b"\x7f\xff\xff\xff\xff\xff\xff\xff\xff",
+        CodecFault::BadHeader,
+    ),
     (b"\x41\xfa\x04\x01", CodecFault::BadPadding),
+    // the partial key is cut off behind its padding
     (b"\x43\xfa", CodecFault::BadPadding),
     (b"\x42\xaa\x01\x00", CodecFault::BadLength),
+    (b"\x42\xaa\xfd\x00", CodecFault::BadLength),
     (b"\x42\xaa\x02\x00\x00\x00", CodecFault::BadLength),
+    (b"\x42\xaa\xfe\xff\x00\x00", CodecFault::BadLength),
+    // a length of the fourth mode, though nothing follows
     (b"\x42\xaa\x03", CodecFault::BadLength),
+    (b"\xc0\x01\x00\x00\x03", CodecFault::BadLength),
+    // no child, in a longer mode than it needs
+    (b"\xc0\x01\x00\x00\x01\x00", CodecFault::BadLength),
     (b"\x80\x00\x00", CodecFault::BadBitmap),
-    (b"\xc0\x00\x00\x00", CodecFault::BadBitmap),
+    // no value and no child behind the bitmap
+    (b"\xc0\x00\x00", CodecFault::BadBitmap),
     (b"\x80\x01\x00", CodecFault::BadBitmap),
     (b"\x81\x00\x03\x00\x00", CodecFault::BadChild),
+    // over 32 bytes, none of which is there
     (b"\xc0\x01\x00\x00\x84", CodecFault::BadChild),
     (b"\xc0\x01\x00\x00\x04\x00", CodecFault::BadChild),
     (b"\xc0\x01\x00\x00\x04\x20", CodecFault::BadChild),
+    // a byte behind a child in a child
     (
         b"\xc0\x01\x00\x00\x28\xc0\x01\x00\x00\x14\x41\x0b\x04\x02\x99",
         CodecFault::BadChild,
     ),
+    // a short child with a byte behind the node
+    (b"\xc0\x01\x00\x00\x04\x41\x99", CodecFault::BadChild),
     (b"\x00\x00", CodecFault::Trailing),
     (b"\x42\xaa\x04\x01\x99", CodecFault::Trailing),
 ];
@@ -49,185 +76,215 @@ const HEADERS: [(usize, &[u8]); 6] = [
     (2048, b"\x7f\xff\xff\xff\xff\xff\xff\xff\xc8"),
 ];
 
-// A branch whose child 0 is a leaf of 31 bytes, one whose child 1 is a hash, and one with a branch as its child.
-const INLINE: &[u8] =
-    b"\xc0\x01\x00\x00\x7c\x41\x0b\x70\xab\xab\xab\xab\xab\xab\xab\xab\xab\xab\xab\xab\xab\xab\xab\xab\xab\xab\xab\xab\xab\xab\xab\xab\xab\xab\xab\xab";
+// How many bytes a value has, and how their number is spelled.
+const VALUES: [(usize, &[u8]); 4] = [
+    (63, b"\xfc"),
+    (64, b"\x01\x01"),
+    (16383, b"\xfd\xff"),
+    (16384, b"\x02\x00\x01\x00"),
+];
 
-const HASHED: &[u8] =
-    b"\xc0\x02\x00\x00\x80\xab\xab\xab\xab\xab\xab\xab\xab\xab\xab\xab\xab\xab\xab\xab\xab\xab\xab\xab\xab\xab\xab\xab\xab\xab\xab\xab\xab\xab\xab\xab\xab";
+// A node's partial key, value and children, each with its nibble, and the spelling.
+type Row = (
+    &'static [u8],
+    Option<&'static [u8]>,
+    &'static [(u8, &'static [u8])],
+    &'static [u8],
+);
 
-const NESTED: &[u8] = b"\xc0\x01\x00\x00\x24\xc0\x01\x00\x00\x10\x41\x0b\x04\x02";
+const NODES: [Row; 7] = [
+    (b"", None, &[], b"\x00"),
+    (b"\x0a\x0a", Some(b""), &[], b"\x42\xaa\x00"),
+    // an odd partial key, whose zero half stands in front
+    (b"\x01\x02\x03", Some(b"\x04"), &[], b"\x43\x01\x23\x04\x04"),
+    (
+        b"\x0a\x0a",
+        Some(b"\x01"),
+        &[(11, b"\x41\x0b\x04\x02")],
+        b"\xc2\xaa\x00\x08\x04\x01\x10\x41\x0b\x04\x02",
+    ),
+    (
+        b"\x0a",
+        None,
+        &[(10, b"\x40\x04\x01"), (11, b"\x40\x04\x02")],
+        b"\x81\x0a\x00\x0c\x0c\x40\x04\x01\x0c\x40\x04\x02",
+    ),
+    // a child of 31 bytes stands there itself, one of 32 by its hash
+    (
+        b"\x0a",
+        None,
+        &[
+            (
+                10,
+                b"\x40\x74\xab\xab\xab\xab\xab\xab\xab\xab\xab\xab\xab\xab\xab\xab\xab\xab\xab\xab\xab\xab\xab\xab\xab\xab\xab\xab\xab\xab\xab",
+            ),
+            (
+                11,
+                b"\xea\xc4\x4b\x12\xb8\x7d\x44\xaf\x3f\x06\xcf\x82\x1e\x16\x44\xe4\xac\x1c\x41\xee\x3b\xcc\x57\x5b\x1a\xe5\x16\xa8\x63\x0a\xe3\x49",
+            ),
+        ],
+        b"\x81\x0a\x00\x0c\x7c\x40\x74\xab\xab\xab\xab\xab\xab\xab\xab\xab\xab\xab\xab\xab\xab\xab\xab\xab\xab\xab\xab\xab\xab\xab\xab\xab\xab\xab\xab\xab\x80\xea\xc4\x4b\x12\xb8\x7d\x44\xaf\x3f\x06\xcf\x82\x1e\x16\x44\xe4\xac\x1c\x41\xee\x3b\xcc\x57\x5b\x1a\xe5\x16\xa8\x63\x0a\xe3\x49",
+    ),
+    // a branch within a branch
+    (
+        b"",
+        Some(b""),
+        &[(0, b"\xc0\x01\x00\x00\x10\x41\x0b\x04\x02")],
+        b"\xc0\x01\x00\x00\x24\xc0\x01\x00\x00\x10\x41\x0b\x04\x02",
+    ),
+];
 
 #[test]
 fn faults(rt: HostRuntime) -> Result<(), Fail> {
+    known_readings();
     for (bytes, why) in REFUSED {
-        assert_eq!(rt; NodeRef::read(bytes).err(), Some(why));
+        assert_eq!(rt; NodeRef::read(bytes).err(), Some(why), "{bytes:?}");
     }
-    // 2,049 nibbles, though no byte follows.
-    assert_eq!(rt;
-        NodeRef::read(b"\x7f\xff\xff\xff\xff\xff\xff\xff\xc9").err(),
-        Some(CodecFault::BadHeader)
-    );
+    Ok(())
+}
+
+// Whether nibbles can be a partial key.
+fn is_partial(nibbles: &[u8]) -> bool
+    ensures { IsTrue result → IsPartial nibbles.now }
+{
+    nibbles.len() <= 2048 && nibbles.iter().all(|nibble| *nibble < 16)
+}
+
+// The children at these nibbles; none where one can't be there.
+fn child_list(alloc: Global, children: &[(u8, &[u8])]) -> Result<Option<ChildList>, OutOfMemory>
+    ensures sixteen { IfOk result (λ found. IfSome found (λ c. length c ≡ 16)) }
+    ensures short { IfOk result (λ found. IfSome found (λ c. All (λ child. IfSome child IsShort) c)) }
+{
+    let mut found = ChildList::new();
+    for (nibble, merkle_value) in children {
+        if *nibble >= 16 || merkle_value.len() > 32 {
+            return Ok(None);
+        }
+        found.set(*nibble, Some(Bytes::from_slice(alloc, merkle_value)?));
+    }
+    Ok(Some(found))
+}
+
+// The spelling of these parts; none where they can't be spelled.
+fn spelled(
+    alloc: Global,
+    partial: &[u8],
+    value: Option<&[u8]>,
+    children: &[(u8, &[u8])],
+) -> Result<Option<Bytes>, OutOfMemory> {
+    if !is_partial(partial) {
+        return Ok(None);
+    }
+    let Some(children) = child_list(alloc, children)? else {
+        return Ok(None);
+    };
+    let value = match value {
+        None => None,
+        Some(bytes) if bytes.len() > 16384 => return Ok(None),
+        Some(bytes) => Some(Bytes::from_slice(alloc, bytes)?),
+    };
+    let node = Plain {
+        partial: Nibbles::from_slice(alloc, partial)?,
+        value,
+        children,
+    };
+    Ok(Some(encode(alloc, &node)?))
+}
+
+// The Merkle value of a child, if there is one.
+fn merkle_value_at<'a>(node: &NodeRef<'a>, i: u8) -> Option<&'a [u8]>
+    requires { i < 16 }
+{
+    match node.child(i) {
+        ChildRef::None => None,
+        ChildRef::Inline(bytes) => Some(bytes),
+        ChildRef::Hashed(hash) => Some(hash),
+    }
+}
+
+#[test]
+fn nodes_both_ways(rt: HostRuntime) -> Result<(), Fail> {
+    let alloc = rt.alloc();
+    what_is_written_is_read();
+    what_is_read_was_written();
+    for (partial, value, children, bytes) in NODES {
+        let Some(written) = spelled(alloc, partial, value, children)? else {
+            return Err(Fail::new("a row's parts can't be spelled"));
+        };
+        assert_eq!(rt; written.as_slice(), bytes);
+        let node = NodeRef::read(bytes)?;
+        assert_eq!(rt; node.partial_len(), partial.len());
+        assert_eq!(rt; node.value(), value);
+        for i in 0..16u8 {
+            let want = children.iter().find(|child| child.0 == i);
+            assert_eq!(rt; merkle_value_at(&node, i), want.map(|child| child.1));
+        }
+    }
     Ok(())
 }
 
 #[test]
-fn partial_keys(rt: HostRuntime) -> Result<(), Fail> {
+fn kinds(rt: HostRuntime) -> Result<(), Fail> {
+    for (bytes, kind) in [
+        (b"\x00".as_slice(), Kind::Empty),
+        (b"\x42\xaa\x00".as_slice(), Kind::Leaf),
+        (
+            b"\xc0\x01\x00\x00\x10\x41\x0b\x04\x02".as_slice(),
+            Kind::Branch,
+        ),
+    ] {
+        assert_eq!(rt; NodeRef::read(bytes)?.kind(), kind);
+    }
+    Ok(())
+}
+
+// The leaf that bytes spell, its partial key as nibbles.
+fn nibbles_of_leaf(alloc: Global, leaf: &NodeRef<'_>) -> Result<Nibbles, OutOfMemory> {
+    let mut nibbles = Nibbles::new(alloc);
+    for i in 0..leaf.partial_len() {
+        nibbles.push(leaf.nibble(i))?;
+    }
+    Ok(nibbles)
+}
+
+// Reads bytes as a leaf with so many nibbles and so many bytes of value, and writes the same bytes again.
+fn leaf_both_ways(alloc: Global, bytes: &[u8], nibbles: usize, value: usize) -> Result<bool, Fail> {
+    let leaf = NodeRef::read(bytes)?;
+    let partial = nibbles_of_leaf(alloc, &leaf)?;
+    let Some(written) = spelled(alloc, partial.as_slice(), leaf.value(), &[])? else {
+        return Ok(false);
+    };
+    let long = match leaf.value() {
+        Some(found) => found.len() == value,
+        None => false,
+    };
+    Ok(long && leaf.partial_len() == nibbles && written.as_slice() == bytes)
+}
+
+#[test]
+fn long_partial_keys(rt: HostRuntime) -> Result<(), Fail> {
+    let alloc = rt.alloc();
     for (len, header) in HEADERS {
-        let mut bytes = Vec::new(rt.alloc());
-        bytes.extend_from_slice(header)?;
+        let mut bytes = Vec::from_slice(alloc, header)?;
         for _ in 0..len.div_ceil(2) {
             bytes.push(0x0a)?;
         }
         bytes.extend_from_slice(b"\x04\x07")?;
-        let leaf = NodeRef::read(&bytes)?;
-        assert_eq!(rt; leaf.kind(), Kind::Leaf);
-        assert_eq!(rt; leaf.partial_len(), len);
-        assert_eq!(rt; leaf.nibble(len - 1), 0x0a);
-        assert_eq!(rt; leaf.value(), Some(b"\x07".as_slice()));
+        assert!(rt; leaf_both_ways(alloc, &bytes, len, 1)?, "{len}");
     }
     Ok(())
 }
 
 #[test]
-fn children(rt: HostRuntime) -> Result<(), Fail> {
-    let inline = NodeRef::read(INLINE)?;
-    assert_eq!(rt; inline.kind(), Kind::Branch);
-    assert_eq!(rt; inline.partial_len(), 0);
-    assert_eq!(rt; inline.child(0), ChildRef::Inline(&INLINE[5..]));
-    assert_eq!(rt; inline.child(1), ChildRef::None);
-    let hashed = NodeRef::read(HASHED)?;
-    assert_eq!(rt; hashed.child(0), ChildRef::None);
-    assert_eq!(rt; hashed.child(1), ChildRef::Hashed(&HASHED[5..]));
-    let nested = NodeRef::read(NESTED)?;
-    assert_eq!(rt; nested.child(0), ChildRef::Inline(&NESTED[5..]));
-    assert_eq!(rt;
-        NodeRef::read(&NESTED[5..])?.child(0),
-        ChildRef::Inline(&NESTED[10..])
-    );
-    Ok(())
-}
-
-#[test]
-fn empty(rt: HostRuntime) -> Result<(), Fail> {
-    known_readings();
-    let node = NodeRef::read(b"\x00")?;
-    assert_eq!(rt; node.kind(), Kind::Empty);
-    assert_eq!(rt; node.partial_len(), 0);
-    assert_eq!(rt; node.value(), None);
-    Ok(())
-}
-
-// The spelling of a leaf.
-fn leaf(alloc: Global, partial: &[u8], value: &[u8]) -> Result<Bytes, OutOfMemory>
-    requires partial { IsPartial partial.now }
-    requires value { length value.now < 2 ^ 30 }
-    ensures { IfOk result (λ bytes. bytes ≡ spelling (record { partial = partial.now; value = Some value.now; children = replicate 16 None })) }
-{
-    let node = Plain {
-        partial: Nibbles::from_slice(alloc, partial)?,
-        value: Some(Bytes::from_slice(alloc, value)?),
-        children: ChildList::new(),
-    };
-    encode(alloc, &node)
-}
-
-// The spelling of a leaf of no bytes behind so many nibbles.
-#[tactic(auto, using(crate::proofs::Examples::zero_nibbles))]
-fn long_leaf(alloc: Global, len: usize) -> Result<Bytes, OutOfMemory>
-    requires { len ≤ 2048 }
-{
-    let zeros = vec![in alloc; 0u8; len]?;
-    leaf(alloc, &zeros, b"")
-}
-
-#[test]
-#[tactic(auto, using(crate::proofs::Examples::two_nibbles))]
-fn leaves(rt: HostRuntime) -> Result<(), Fail> {
+fn long_values(rt: HostRuntime) -> Result<(), Fail> {
     let alloc = rt.alloc();
-    assert_eq!(rt;
-        leaf(alloc, &[10, 10], b"")?.as_slice(),
-        b"\x42\xaa\x00".as_slice()
-    );
-    assert!(rt; long_leaf(alloc, 62)?.as_slice().starts_with(b"\x7e\x00"));
-    assert!(rt;
-        long_leaf(alloc, 63)?
-            .as_slice()
-            .starts_with(b"\x7f\x00\x00")
-    );
-    assert!(rt;
-        long_leaf(alloc, 64)?
-            .as_slice()
-            .starts_with(b"\x7f\x01\x00")
-    );
-    assert!(rt;
-        long_leaf(alloc, 318)?
-            .as_slice()
-            .starts_with(b"\x7f\xff\x00\x00")
-    );
-    Ok(())
-}
-
-// An odd partial key has its zero half in front, not behind its last nibble.
-#[test]
-#[tactic(auto, using(crate::proofs::Examples::three_nibbles))]
-fn an_odd_partial_key(rt: HostRuntime) -> Result<(), Fail> {
-    let spelled = leaf(rt.alloc(), &[1, 2, 3], b"\x04")?;
-    assert_eq!(rt; spelled.as_slice(), b"\x43\x01\x23\x04\x04".as_slice());
-    Ok(())
-}
-
-#[test]
-#[tactic(auto, using(crate::proofs::Examples::nibble_eleven))]
-fn branch_with_a_value(rt: HostRuntime) -> Result<(), Fail> {
-    let alloc = rt.alloc();
-    let below = leaf(alloc, &[11], b"\x02")?;
-    let mut children = ChildList::new();
-    children.set(11, Some(below));
-    let node = Plain {
-        partial: Nibbles::from_slice(alloc, &[10, 10])?,
-        value: Some(Bytes::from_slice(alloc, b"\x01")?),
-        children,
-    };
-    let spelled = encode(alloc, &node)?;
-    assert_eq!(rt;
-        spelled.as_slice(),
-        b"\xc2\xaa\x00\x08\x04\x01\x10\x41\x0b\x04\x02".as_slice()
-    );
-    Ok(())
-}
-
-#[test]
-#[tactic(auto, using(crate::proofs::Examples::no_nibble))]
-fn branch_of_two(rt: HostRuntime) -> Result<(), Fail> {
-    let alloc = rt.alloc();
-    let first = leaf(alloc, b"", b"\x01")?;
-    let second = leaf(alloc, b"", b"\x02")?;
-    let mut children = ChildList::new();
-    children.set(10, Some(first));
-    children.set(11, Some(second));
-    let node = Plain {
-        partial: Nibbles::from_slice(alloc, &[10])?,
-        value: None,
-        children,
-    };
-    let spelled = encode(alloc, &node)?;
-    assert_eq!(rt;
-        spelled.as_slice(),
-        b"\x81\x0a\x00\x0c\x0c\x40\x04\x01\x0c\x40\x04\x02".as_slice()
-    );
-    Ok(())
-}
-
-#[test]
-fn nothing(rt: HostRuntime) -> Result<(), Fail> {
-    let alloc = rt.alloc();
-    let node = Plain {
-        partial: Nibbles::new(alloc),
-        value: None,
-        children: ChildList::new(),
-    };
-    let spelled = encode(alloc, &node)?;
-    assert_eq!(rt; spelled.as_slice(), b"\x00".as_slice());
+    for (len, prefix) in VALUES {
+        let mut bytes = Vec::from_slice(alloc, b"\x42\xaa")?;
+        bytes.extend_from_slice(prefix)?;
+        for _ in 0..len {
+            bytes.push(0xcd)?;
+        }
+        assert!(rt; leaf_both_ways(alloc, &bytes, 2, len)?, "{len}");
+    }
     Ok(())
 }

@@ -1,9 +1,9 @@
-ghost use Rattle.std.specs.Prelude.{◌≡◌, ◌+◌, ◌*◌, ◌%◌, ◌^◌, ◌<◌, ◌≤◌, ◌++◌, true, All, IfOk, OnOk, length};
+ghost use Rattle.std.specs.Prelude.{◌≡◌, ◌+◌, ◌*◌, ◌%◌, ◌^◌, ◌<◌, ◌≤◌, ◌++◌, true, All, IfOk, IfSome, OnOk, length};
 ghost use Rattle.std.specs.Int.{w16, to_le_bytes};
 ghost use Rattle.std.specs.List.{flat_map};
 ghost use Rattle.sdb_scale.specs.Compact.{string};
 ghost use Rattle.trie_model.specs.Nibbles.{packed, paired};
-ghost use Rattle.trie_model.specs.Node.{IsNode, IsPartial, IsText, bitmap, branch_kind, has_child, header, optional_string, spelling, spelled};
+ghost use Rattle.trie_model.specs.Node.{IsPartial, IsShort, IsSpellable, bitmap, branch_kind, has_child, header, optional_string, spelling, spelled};
 ghost use Rattle.trie_codec.specs.Parts.{node_of};
 
 use crate::plain::Plain;
@@ -11,14 +11,16 @@ use sdb_base::{Bytes, OutOfMemory};
 use sdb_scale::{ScaleFault, put_bytes};
 use std::alloc::{AllocError, Global};
 
-/// The spelling of a node. `OutOfMemory` comes only for want of memory.
+/// The spelling of a node of these parts: at most 2,048 nibbles, each below 16, and a value and Merkle values of fewer
+/// than 2^30 bytes. `OutOfMemory` comes only for want of memory.
 #[tactic(auto, unfolding(trie_model::specs::Node::spelling))]
 pub fn encode(alloc: Global, node: &Plain) -> Result<Bytes, OutOfMemory>
-    requires { IsNode (node_of node.now) }
+    requires { IsSpellable (node_of node.now) }
     ensures { IfOk result (λ bytes. bytes ≡ spelling (node_of node.now)) }
 {
-    let mut out = Vec::new(alloc);
-    if is_branch(node.children.as_slice()) {
+    let is_branch = is_branch(node.children.as_slice());
+    let mut out = Vec::with_capacity(alloc, room_of(node, is_branch))?;
+    if is_branch {
         put_branch(&mut out, node)?;
     } else {
         match &node.value {
@@ -27,6 +29,19 @@ pub fn encode(alloc: Global, node: &Plain) -> Result<Bytes, OutOfMemory>
         }
     }
     Ok(Bytes::from_vec(out))
+}
+
+// Room for a node's spelling, so that it need not grow where children are no longer than hashes.
+fn room_of(node: &Plain, is_branch: bool) -> usize
+    requires partial { length node.now.partial ≤ 2048 }
+    requires value { IfSome node.now.value IsShort }
+{
+    let value = match &node.value {
+        None => 0,
+        Some(value) => 4 + value.len(),
+    };
+    let children = if is_branch { 2 + 16 * 33 } else { 0 };
+    10 + node.partial.len().div_ceil(2) + value + children
 }
 
 // Whether there is a child.
@@ -50,8 +65,8 @@ fn put_leaf(out: &mut Vec<u8>, partial: &[u8], value: &[u8]) -> Result<(), Alloc
 // Appends a branch.
 fn put_branch(out: &mut Vec<u8>, node: &Plain) -> Result<(), AllocError>
     requires partial { IsPartial node.now.partial }
-    requires value { IsText node.now.value }
-    requires children { All IsText node.now.children }
+    requires value { IfSome node.now.value IsShort }
+    requires children { All (λ c. IfSome c IsShort) node.now.children }
     requires sixteen { length node.now.children ≡ 16 }
     ensures { OnOk result (out.new.items ≡ out.old.items ++ spelled true node.now.value (node_of node.now)) }
 {
@@ -123,7 +138,7 @@ fn bitmap_of(children: &[Option<Bytes>]) -> u16
 
 // Appends the Merkle values of the children that there are.
 fn put_children(out: &mut Vec<u8>, children: &[Option<Bytes>]) -> Result<(), AllocError>
-    requires { All IsText children.now }
+    requires { All (λ c. IfSome c IsShort) children.now }
     ensures { OnOk result (out.new.items ≡ out.old.items ++ flat_map optional_string children.now) }
 {
     for child in children {
@@ -134,7 +149,7 @@ fn put_children(out: &mut Vec<u8>, children: &[Option<Bytes>]) -> Result<(), All
 
 // Appends a part as a byte string, if it is there.
 fn put_optional(out: &mut Vec<u8>, part: &Option<Bytes>) -> Result<(), AllocError>
-    requires { IsText part.now }
+    requires { IfSome part.now IsShort }
     ensures { OnOk result (out.new.items ≡ out.old.items ++ optional_string part.now) }
 {
     match part {

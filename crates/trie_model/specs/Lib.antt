@@ -1,4 +1,5 @@
 pub mod State
+pub mod Limits
 pub mod Nibbles
 pub mod Node
 pub mod Trie

@@ -1,6 +1,6 @@
 -- Trie nodes and their spelling (Polkadot Host specification, node values and node headers of the state trie,
 -- state version 0).
-use Rattle.std.specs.Prelude.{◌≡◌, ◌⊎◌, ℕ, zero, suc, ◌+◌, ◌-◌, ◌*◌, ◌/◌, ◌%◌, ◌^◌, ◌<◌, ◌≤◌, nat_lt, Bool, true, false, List, [], ◌∷◌, ◌++◌, length, replicate, count_by, if◌then◌else◌, Option, Some, None, is_some, All}
+use Rattle.std.specs.Prelude.{◌≡◌, ◌⊎◌, ℕ, zero, suc, ◌+◌, ◌-◌, ◌*◌, ◌/◌, ◌%◌, ◌^◌, ◌<◌, ◌≤◌, nat_lt, Bool, true, false, List, [], ◌∷◌, ◌++◌, length, replicate, count_by, if◌then◌else◌, Option, Some, None, is_some, IfSome, All}
 use Rattle.std.specs.Int.{w16, to_le_bytes}
 use Rattle.std.specs.List.{flat_map, list_any}
 use Rattle.sdb_blake2.specs.Blake2b.{H}
@@ -76,17 +76,36 @@ abbrev pub IsShaped : Node → Type 0
 IsShaped n = (n ≡ empty_node) ⊎ ((1 ≤ count_by is_some n.children + (if is_some n.value then 1 else 0))
     × (has_child n.children ≡ true → 2 ≤ count_by is_some n.children + (if is_some n.value then 1 else 0)))
 
+-- not too many for a compact length
+abbrev pub IsShort : List ℕ → Type 0
+IsShort bytes = length bytes < 2 ^ 30
+
 -- bytes, not too many for a compact length
 abbrev pub IsText : Option (List ℕ) → Type 0
 IsText None = Unit {0}
-IsText (Some bytes) = (length bytes < 2 ^ 30) × All (λ b. b < 256) bytes
+IsText (Some bytes) = IsShort bytes × All (λ b. b < 256) bytes
+
+-- Parts that can be spelled: nibbles that are not too many, texts that are not too long for a compact length, and a
+-- place for each of the sixteen children.
+pub record IsSpellable (n : Node) : Type 0 where
+  pub partial : IsPartial n.partial
+  pub value : IfSome n.value IsShort
+  pub sixteen : length n.children ≡ 16
+  pub children : All (λ c. IfSome c IsShort) n.children
+
+-- the parts of a node, where P says of which nodes an inline child may be the spelling
+pub record AreParts (P : Node → Type 0) (n : Node) : Type 0 where
+  pub partial : IsPartial n.partial
+  pub value : IsText n.value
+  pub sixteen : length n.children ≡ 16
+  pub texts : All IsText n.children
+  pub children : All (IsChild P) n.children
+  pub shaped : IsShaped n
 
 -- the parts of a node with inline children at most so many levels deep
-abbrev pub IsNodeWithin : ℕ → Node → Type 0
+unfoldable pub IsNodeWithin : ℕ → Node → Type 0
 IsNodeWithin zero n = ⊥
-IsNodeWithin (suc depth) n =
-    IsPartial n.partial × IsText n.value × (length n.children ≡ 16) × All IsText n.children
-    × All (IsChild (IsNodeWithin depth)) n.children × IsShaped n
+IsNodeWithin (suc depth) n = AreParts (IsNodeWithin depth) n
 
 -- The parts of a node. An inline child has fewer than 32 bytes and holds its own children in them, so that more levels
 -- than 32 don't fit.

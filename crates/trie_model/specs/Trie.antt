@@ -1,7 +1,7 @@
 -- The trie of a state (Polkadot Host specification, general trie structure), built from the whole map at once.
 use Rattle.std.specs.Prelude.{ℕ, zero, suc, ◌+◌, ◌==◌, max, List, [], ◌∷◌, ◌++◌, length, map, if◌then◌else◌, Option, Some, None}
 use Rattle.std.specs.Option.{option_map}
-use Rattle.std.specs.List.{filter_map}
+use Rattle.std.specs.List.{filter_map, flat_map}
 use Rattle.std.specs.FinMap.{entries}
 use Rattle.sdb_blake2.specs.Blake2b.{H}
 use Rattle.trie_model.specs.State.{State}
@@ -47,6 +47,15 @@ abbrev pub child_value : (List Suffix → Node) → List Suffix → Option (List
 child_value node [] = None
 child_value node (s ∷ ss) = Some (merkle_value (spelling (node (s ∷ ss))))
 
+-- suffixes behind a prefix
+abbrev pub behind : List ℕ → List Suffix → List Suffix
+behind prefix suffixes = map (λ (s : Suffix). (prefix ++ s.0, s.1)) suffixes
+
+-- a node's own value, behind no nibble
+abbrev pub own_value : Option (List ℕ) → List Suffix
+own_value None = []
+own_value (Some value) = ([], value) ∷ []
+
 -- The node over some suffixes: its partial key is their longest common prefix, its value that of the suffix that is
 -- the prefix, and its child i the node over the suffixes that go on with the prefix and i. The number bounds the
 -- depth.
@@ -60,6 +69,15 @@ node_over (suc depth) suffixes =
       children = map (λ i. child_value (node_over depth) (below (prefix ++ i ∷ []) suffixes)) sixteen;
     }
 
+-- what is read off the node over some suffixes and off the nodes below it: the nibbles on the way to each value, and the
+-- value
+unfoldable pub read_off : ℕ → List Suffix → List Suffix
+read_off zero suffixes = []
+read_off (suc depth) suffixes =
+    let n = node_over (suc depth) suffixes in
+    behind n.partial (own_value n.value
+    ++ flat_map (λ i. behind (i ∷ []) (read_off depth (below (n.partial ++ i ∷ []) suffixes))) sixteen)
+
 -- as many levels as the longest suffix has nibbles, and one: each level takes a nibble away
 abbrev pub levels_of : List Suffix → ℕ
 levels_of [] = 1
@@ -69,9 +87,13 @@ levels_of (s ∷ ss) = max (length s.0 + 1) (levels_of ss)
 abbrev pub suffixes_of : State → List Suffix
 suffixes_of m = map (λ e. (nibbles_of e.0, e.1)) (entries m)
 
+-- the node over some suffixes, on as many levels as it takes
+abbrev pub node_of_all : List Suffix → Node
+node_of_all suffixes = node_over (levels_of suffixes) suffixes
+
 -- the root node of a state's trie
 unfoldable pub root_node : State → Node
-root_node m = node_over (levels_of (suffixes_of m)) (suffixes_of m)
+root_node m = node_of_all (suffixes_of m)
 
 -- the root of a state: the hash of its root node's spelling, however short that is
 unfoldable pub trie_root : State → List ℕ

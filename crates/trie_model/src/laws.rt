@@ -1,4 +1,4 @@
-ghost use Rattle.std.specs.Prelude.{◌≡◌, ℕ, List, [], ◌∷◌, ◌++◌, Some, None, Option, if◌then◌else◌, codes};
+ghost use Rattle.std.specs.Prelude.{◌≡◌, ℕ, List, [], ◌∷◌, ◌++◌, Some, None, Option, if◌then◌else◌, codes, replicate};
 ghost use Rattle.std.specs.Str.{bytes_eq};
 ghost use Rattle.std.specs.FinMap as map;
 ghost use Rattle.sdb_base.specs.declared.Change.{Change};
@@ -21,10 +21,12 @@ pub fn equal_states_have_one_trie()
 {}
 
 /// Nodes that the definitions give, by computing: the header of each length at which it grows, the node of the empty
-/// trie, and root nodes of one key, of a key that another one extends, and of two keys that differ in their last nibble.
+/// trie, a leaf of three nibbles, and root nodes of one key, of a key that another one extends, and of two keys that differ in their last nibble.
 pub fn known_nodes()
     ensures headers { (header 1 62 ≡ 0x7e ∷ []) × (header 1 63 ≡ 0x7f ∷ (0 ∷ [])) × (header 1 64 ≡ 0x7f ∷ (1 ∷ [])) × (header 1 318 ≡ 0x7f ∷ (0xff ∷ (0 ∷ []))) }
     ensures nothing { spelling (node_over 1 []) ≡ 0 ∷ [] }
+    ensures odd { spelling (record { partial = 1 ∷ (2 ∷ (3 ∷ [])); value = Some (4 ∷ []); children = replicate 16 None })
+        ≡ 0x43 ∷ (0x01 ∷ (0x23 ∷ (0x04 ∷ (0x04 ∷ [])))) }
     ensures one { spelling (node_over 3 ((nibbles_of (0xaa ∷ []), []) ∷ [])) ≡ 0x42 ∷ (0xaa ∷ (0 ∷ [])) }
     ensures extended { spelling (node_over 5 ((nibbles_of (0xaa ∷ []), 1 ∷ []) ∷ ((nibbles_of (0xaa ∷ (0xbb ∷ [])), 2 ∷ []) ∷ [])))
         ≡ 0xc2 ∷ (0xaa ∷ (0x00 ∷ (0x08 ∷ (0x04 ∷ (0x01 ∷ (0x10 ∷ (0x41 ∷ (0x0b ∷ (0x04 ∷ (0x02 ∷ [])))))))))) }

@@ -11,6 +11,10 @@ pub returns-clause-nothing : goal.returns-clause-nothing
 unfolding spelling node_over
 returns-clause-nothing c = refl
 
+pub returns-clause-odd : goal.returns-clause-odd
+unfolding spelling compact
+returns-clause-odd c = refl
+
 pub returns-clause-one : goal.returns-clause-one
 unfolding spelling node_over compact merkle_value
 returns-clause-one c = refl
