@@ -33,13 +33,13 @@ pub levels_below : (q : List ℕ) (ss : List Suffix) → (below q ss ≡ []) ⊎
 levels_below q [] = inl refl
 levels_below q (s ∷ ss) = one_more q s (after_prefix q s.0) (below q ss) (levels_of ss) refl (levels_above_none ss) (levels_below q ss)
 
-same_child : (f g : List Suffix → Node) (ts : List Suffix) (k : ℕ) (most : ℕ) → ((ts ≡ []) ⊎ (levels_of ts + k ≤ most))
+pub same_child : (f g : List Suffix → Node) (ts : List Suffix) (k : ℕ) (most : ℕ) → ((ts ≡ []) ⊎ (levels_of ts + k ≤ most))
     → (levels_of ts + k ≤ most → f ts ≡ g ts) → child_value f ts ≡ child_value g ts
 same_child f g [] k most either same = refl
 same_child f g (t ∷ ts) k most (inl none) same = absurd cc
 same_child f g (t ∷ ts) k most (inr fits) same = ap (λ (n : Node). Some (merkle_value (spelling n))) (same fits)
 
-map_alike : {X Y : Type 0} (f g : X → Y) → ((x : X) → f x ≡ g x) → (xs : List X) → map f xs ≡ map g xs
+pub map_alike : {X Y : Type 0} (f g : X → Y) → ((x : X) → f x ≡ g x) → (xs : List X) → map f xs ≡ map g xs
 map_alike f g same [] = refl
 map_alike f g same (x ∷ xs) = let one : f x ≡ g x = same x in let rest : map f xs ≡ map g xs = map_alike f g same xs in cc
 

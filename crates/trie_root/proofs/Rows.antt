@@ -22,7 +22,7 @@ pub record Row (i : ℕ) (ss : List Suffix) : Type 0 where
   pub inside : below (i ∷ []) run ≡ map (without 1) run
   pub behind : below (i ∷ []) back ≡ []
 
-unlike : (i n : ℕ) → (i ≡ n → ⊥) → eqb i n ≡ false
+pub unlike : (i n : ℕ) → (i ≡ n → ⊥) → eqb i n ≡ false
 unlike i n h = elim (eqb_tells i n) [ inl t ↦ absurd (h t.1) | inr f ↦ f.0 ]
 
 pub not_with_lower : (i n : ℕ) (ns ts : List ℕ) → i < n → AtMost (n ∷ ns) ts → after_prefix (i ∷ []) ts ≡ None
@@ -108,7 +108,7 @@ row i (t ∷ ts) s =
     let others : T (is_sorted (slice_cmp nat_cmp) ts) = second_of_and (below_all t.0 ts) (is_sorted (slice_cmp nat_cmp) ts) s in
     row_next i t.0 t.1 ts (first_of_and (below_all t.0 ts) (is_sorted (slice_cmp nat_cmp) ts) s) others (row i ts others)
 
-joined : (q : List ℕ) (xs ys : List Suffix) → below q (xs ++ ys) ≡ below q xs ++ below q ys
+pub joined : (q : List ℕ) (xs ys : List Suffix) → below q (xs ++ ys) ≡ below q xs ++ below q ys
 joined q xs ys = filter_map-append (λ (s : Suffix). option_map (λ (rest : List ℕ). (rest, s.1)) (after_prefix q s.0)) xs ys
 
 -- below a nibble stands the row, without the nibble

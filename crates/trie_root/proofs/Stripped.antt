@@ -11,7 +11,7 @@ use Rattle.trie_model.specs.Trie.{Suffix, below, common_prefix, value_here}
 use Rattle.trie_root.proofs.Ends.{below_all, first_of_and, second_of_and}
 use Rattle.trie_root.proofs.Prefixes.{Begins, all_remain, begins_both, begins_itself, begins_nothing, begins_parts, without}
 
-tied : (n m : ℕ) → n ≡ m → nat_cmp n m ≡ Equal
+pub tied : (n m : ℕ) → n ≡ m → nat_cmp n m ≡ Equal
 tied n m e = subst (λ (k : ℕ). nat_cmp n k ≡ Equal) e (tied_itself nat_cmp_total n)
 
 -- two lists that begin alike are in the order of what follows
@@ -26,18 +26,18 @@ slice_cmp-without (x ∷ p) (n ∷ a) (m ∷ b) h k =
     let tie : nat_cmp n m ≡ Equal = tied n m (sym one.0 ∙ two.0) in
     ap (λ o. ordering_then o (slice_cmp nat_cmp a b)) tie ∙ slice_cmp-without p a b one.1 two.1
 
-abbrev AllBegin : List ℕ → List Suffix → Type 0
+abbrev pub AllBegin : List ℕ → List Suffix → Type 0
 AllBegin p [] = Unit {0}
 AllBegin p (s ∷ ss) = Begins p s.0 × AllBegin p ss
 
-all_begin : (p : List ℕ) (ss : List Suffix) → Begins p (common_prefix ss) → AllBegin p ss
+pub all_begin : (p : List ℕ) (ss : List Suffix) → Begins p (common_prefix ss) → AllBegin p ss
 all_begin p [] h = tt
 all_begin p (s ∷ []) h = (h, tt)
 all_begin p (s ∷ (t ∷ ss)) h =
     let both : Begins p s.0 × Begins p (common_prefix (t ∷ ss)) = begins_both p s.0 (common_prefix (t ∷ ss)) h in
     (both.0, all_begin p (t ∷ ss) both.1)
 
-and : (a b : Bool) → T a → T b → T (a && b)
+pub and : (a b : Bool) → T a → T b → T (a && b)
 and true b h k = k
 and false b h k = absurd h
 
@@ -48,7 +48,7 @@ below_all-without p a (s ∷ ss) h k b =
     and _ _ (subst (λ o. T (is_lt o)) (slice_cmp-without p a s.0 h k.0) (first_of_and _ (below_all a ss) b))
     (below_all-without p a ss h k.1 (second_of_and (is_lt (slice_cmp nat_cmp a s.0)) (below_all a ss) b))
 
-is_sorted-without : (p : List ℕ) (ss : List Suffix) → AllBegin p ss → T (is_sorted (slice_cmp nat_cmp) ss)
+pub is_sorted-without : (p : List ℕ) (ss : List Suffix) → AllBegin p ss → T (is_sorted (slice_cmp nat_cmp) ss)
     → T (is_sorted (slice_cmp nat_cmp) (map (without (length p)) ss))
 is_sorted-without p [] k s = tt
 is_sorted-without p (t ∷ ts) k s =

@@ -1,0 +1,32 @@
+-- The node over some suffixes, and its children over those behind what all share.
+use Rattle.std.proofs.Common.{◌≡◌, ℕ, suc, List, [], ◌∷◌, ◌++◌, length, Option, refl, ap, ◌∙◌, arith}
+use Rattle.trie_model.specs.Node.{Node}
+use Rattle.trie_model.specs.Trie.{Suffix, below, child_value, common_prefix, levels_of, node_of_all, node_over, sixteen, value_here}
+use Rattle.trie_root.specs.Runs.{child_below, children_over}
+use Rattle.trie_root.proofs.Levels.{levels_below, map_alike, same_child, same_node}
+use Rattle.trie_root.proofs.Prefixes.{below-append}
+
+length_one_more : (p : List ℕ) (i : ℕ) → length (p ++ i ∷ []) ≡ suc (length p)
+length_one_more [] i = refl
+length_one_more (x ∷ p) i = ap suc (length_one_more p i)
+
+child_further : (p : List ℕ) (ss : List Suffix) (i : ℕ)
+    → child_value (node_over (levels_of ss)) (below (p ++ i ∷ []) ss) ≡ child_below (below p ss) i
+child_further p ss i =
+    let ts = below (p ++ i ∷ []) ss in
+    same_child (node_over (levels_of ss)) node_of_all ts (length (p ++ i ∷ [])) (levels_of ss) (levels_below (p ++ i ∷ []) ss)
+    (λ fits. same_node (levels_of ss) (levels_of ts) ts (omega arith) (omega arith))
+    ∙ ap (child_value node_of_all) (below-append p (i ∷ []) ss)
+
+pub one_level : (ss : List Suffix) → node_of_all ss ≡ record {
+  partial = common_prefix ss;
+  value = value_here (below (common_prefix ss) ss);
+  children = children_over (below (common_prefix ss) ss);
+}
+unfolding node_over children_over
+one_level ss =
+    let n = levels_of ss in
+    let p = common_prefix ss in
+    let with_children : List (Option (List ℕ)) → Node = λ cs. record { partial = p; value = value_here (below p ss); children = cs } in
+    same_node n (suc n) ss (omega arith) (omega arith)
+    ∙ ap with_children (map_alike (λ i. child_value (node_over n) (below (p ++ i ∷ []) ss)) (child_below (below p ss)) (child_further p ss) sixteen)

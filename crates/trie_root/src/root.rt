@@ -1,0 +1,236 @@
+ghost use Rattle.std.specs.Prelude.{◌≡◌, ℕ, [], ◌+◌, ◌-◌, ◌*◌, ◌<◌, ◌≤◌, All, IfOk, IfSome, drop, length, slice_index, take};
+ghost use Rattle.sdb_base.specs.Nibbles.{nibbles_of};
+ghost use Rattle.trie_model.specs.Limits.{AreWithin};
+ghost use Rattle.trie_model.specs.Node.{IsShort, merkle_value, spelling};
+ghost use Rattle.trie_model.specs.Trie.{child_value, common, common_prefix, node_of_all, trie_root};
+ghost use Rattle.trie_root.specs.Pairs.{AllWithin, KeysRise, state_of_pairs};
+ghost use Rattle.trie_root.specs.Runs.{GoesOn, HasNext, IsOtherNext, IsRun, children_over, node_at, suffixes_at, value_at};
+
+use sdb_base::{Bytes, Nibbles, NodeHash, OutOfMemory, Pair, Pairs, TryCopy};
+use sdb_blake2::hash256;
+use std::alloc::Global;
+use trie_codec::{ChildList, Plain, encode};
+
+// A spelling of at least as many bytes stands as its hash.
+const HASH_LEN: usize = 32;
+
+/// The root of the state of these keys and values: the hash of its trie's root node. Keys rise strictly, each of at
+/// most 1,024 bytes, and values have at most 4,194,304. `OutOfMemory` comes only for want of memory.
+pub fn root_of(alloc: Global, pairs: &Pairs) -> Result<NodeHash, OutOfMemory>
+    requires rise { KeysRise pairs.now }
+    requires within { AllWithin pairs.now }
+    ensures { IfOk result (λ root. root.0 ≡ trie_root (state_of_pairs pairs.now)) }
+{
+    let spelled = if pairs.is_empty() {
+        spell_empty(alloc)?
+    } else {
+        spell_run(alloc, pairs.as_slice(), 0)?
+    };
+    let hash = hash256(spelled.as_slice());
+    Ok(NodeHash(hash))
+}
+
+// The spelling of the node of the empty trie.
+#[tactic(auto, unfolding(trie_model::specs::Trie::node_over))]
+fn spell_empty(alloc: Global) -> Result<Bytes, OutOfMemory>
+    ensures { IfOk result (λ bytes. bytes ≡ spelling (node_of_all [])) }
+{
+    let node = Plain {
+        partial: Nibbles::new(alloc),
+        value: None,
+        children: ChildList::new(),
+    };
+    encode(alloc, &node)
+}
+
+// The spelling of the node over what the keys have behind `at` nibbles.
+#[cycle(nodes)]
+fn spell_run(alloc: Global, pairs: &[Pair], at: usize) -> Result<Bytes, OutOfMemory>
+    requires some { 1 ≤ length pairs.now }
+    requires run { IsRun at pairs.now }
+    ensures { IfOk result (λ bytes. bytes ≡ spelling (node_of_all (suffixes_at at pairs.now))) }
+{
+    let end = at + shared_of_ends(pairs, at);
+    let children = children_of(alloc, going_on(pairs, end), end)?;
+    spell_node(alloc, &pairs[0], at, end, children)
+}
+
+// The Merkle values of the children of the node whose partial key ends at `at` nibbles, one for each next nibble.
+#[cycle(nodes)]
+fn children_of(alloc: Global, pairs: &[Pair], at: usize) -> Result<Vec<Option<Bytes>>, OutOfMemory>
+    requires at { at ≤ 2048 }
+    requires pairs { GoesOn at pairs.now }
+    ensures { IfOk result (λ children. children.items ≡ children_over (suffixes_at at pairs.now)) }
+{
+    let mut children = Vec::with_capacity(alloc, 16)?;
+    let mut rest = pairs;
+    for nibble in 0..16u8 {
+        let count = run_len(rest, at, nibble);
+        children.push(child_of(alloc, &rest[..count], at)?)?;
+        rest = &rest[count..];
+    }
+    Ok(children)
+}
+
+// The Merkle value of the node over pairs that agree in one nibble more, if there are any.
+#[cycle(nodes)]
+fn child_of(alloc: Global, pairs: &[Pair], at: usize) -> Result<Option<Bytes>, OutOfMemory>
+    requires at { at ≤ 2048 }
+    requires run { IsRun (at + 1) pairs.now }
+    ensures { IfOk result (λ child. child ≡ child_value node_of_all (suffixes_at (at + 1) pairs.now)) }
+{
+    if pairs.is_empty() {
+        return Ok(None);
+    }
+    let spelled = spell_run(alloc, pairs, at + 1)?;
+    Ok(Some(merkle_value(alloc, spelled)?))
+}
+
+// How many nibbles behind `at` all keys share: those that the first and the last share.
+fn shared_of_ends(pairs: &[Pair], at: usize) -> usize
+    requires some { 1 ≤ length pairs.now }
+    requires run { IsRun at pairs.now }
+    ensures { result ≡ length (common_prefix (suffixes_at at pairs.now)) }
+{
+    let first = pairs[0].key.as_slice();
+    let last = pairs[pairs.len() - 1].key.as_slice();
+    shared_len(first, last, at)
+}
+
+// The spelling of the node over pairs whose keys share what the first has from `at` to `end`. It stands apart so that the
+// sixteen places of a node lie on the stack once, and not at each level.
+#[inline(never)]
+fn spell_node(
+    alloc: Global,
+    first: &Pair,
+    at: usize,
+    end: usize,
+    children: Vec<Option<Bytes>>,
+) -> Result<Bytes, OutOfMemory>
+    requires within { AreWithin first.now.key first.now.value }
+    requires behind { at ≤ end }
+    requires end { end ≤ 2 * length first.now.key }
+    requires sixteen { length children.items ≡ 16 }
+    requires short { All (λ c. IfSome c IsShort) children.items }
+    ensures { IfOk result (λ bytes. bytes ≡ spelling (node_at first.now at end children.items)) }
+{
+    let mut node = Plain {
+        partial: nibbles_between(alloc, first.key.as_slice(), at, end)?,
+        value: copy_value(alloc, first, end)?,
+        children: ChildList::new(),
+    };
+    set_children(&mut node.children, children);
+    encode(alloc, &node)
+}
+
+// Sets all children.
+fn set_children(list: &mut ChildList, children: Vec<Option<Bytes>>)
+    requires places { length list.old ≡ 16 }
+    requires sixteen { length children.items ≡ 16 }
+    ensures { list.new ≡ children.items }
+{
+    let mut left = children;
+    while let Some(child) = left.pop() {
+        list.set(left.len() as u8, child);
+    }
+}
+
+// The pair's value, if its key ends at `at` nibbles.
+fn copy_value(alloc: Global, pair: &Pair, at: usize) -> Result<Option<Bytes>, OutOfMemory>
+    requires short { length pair.now.key ≤ 1024 }
+    requires at { at ≤ 2 * length pair.now.key }
+    ensures { IfOk result (λ value. value ≡ value_at at pair.now) }
+{
+    if 2 * pair.key.len() == at {
+        Ok(Some(pair.value.copy(alloc)?))
+    } else {
+        Ok(None)
+    }
+}
+
+// The pairs but for the one, if there is one, whose key ends at `at` nibbles.
+fn going_on(pairs: &[Pair], at: usize) -> &[Pair]
+    requires some { 1 ≤ length pairs.now }
+    requires run { IsRun at pairs.now }
+    ensures on { GoesOn at result.now }
+    ensures same { children_over (suffixes_at at result.now) ≡ children_over (suffixes_at at pairs.now) }
+{
+    if 2 * pairs[0].key.len() == at {
+        &pairs[1..]
+    } else {
+        pairs
+    }
+}
+
+// How many pairs at the front go on with the nibble.
+fn run_len(pairs: &[Pair], at: usize, nibble: u8) -> usize
+    requires { GoesOn at pairs.now }
+    ensures fits { result ≤ length pairs.now }
+    ensures run { All (HasNext at nibble) (take result pairs.now) }
+    ensures next { IsOtherNext at nibble (drop result pairs.now) }
+{
+    for (i, pair) in pairs.iter().enumerate() {
+        if nibble_at(pair.key.as_slice(), at) != nibble {
+            return i;
+        }
+    }
+    pairs.len()
+}
+
+// How many nibbles two keys share behind `at`.
+fn shared_len(a: &[u8], b: &[u8], at: usize) -> usize
+    requires short_a { length a.now ≤ 1024 }
+    requires short_b { length b.now ≤ 1024 }
+    requires at_a { at ≤ 2 * length a.now }
+    requires at_b { at ≤ 2 * length b.now }
+    ensures { result ≡ length (common (drop at (nibbles_of a.now)) (drop at (nibbles_of b.now))) }
+{
+    let most = 2 * a.len().min(b.len());
+    for i in at..most {
+        if nibble_at(a, i) != nibble_at(b, i) {
+            return i - at;
+        }
+    }
+    most - at
+}
+
+// A key's nibbles from `from` to `end`.
+fn nibbles_between(
+    alloc: Global,
+    key: &[u8],
+    from: usize,
+    end: usize,
+) -> Result<Nibbles, OutOfMemory>
+    requires behind { from ≤ end }
+    requires end { end ≤ 2 * length key.now }
+    ensures value { IfOk result (λ nibbles. nibbles ≡ take (end - from) (drop from (nibbles_of key.now))) }
+    ensures below { IfOk result (λ nibbles. All (λ n. n < 16) nibbles) }
+{
+    let mut nibbles = Vec::with_capacity(alloc, end - from)?;
+    for i in from..end {
+        nibbles.push(nibble_at(key, i))?;
+    }
+    Ok(Nibbles::from_vec(nibbles))
+}
+
+// A key's nibble.
+fn nibble_at(key: &[u8], i: usize) -> u8
+    requires { i < 2 * length key.now }
+    ensures value { result ≡ slice_index (nibbles_of key.now) i }
+    ensures below { result < 16 }
+{
+    let byte = key[i / 2];
+    if i % 2 == 0 { byte / 16 } else { byte % 16 }
+}
+
+// A spelling's Merkle value.
+#[tactic(auto, unfolding(trie_model::specs::Node::merkle_value))]
+fn merkle_value(alloc: Global, spelled: Bytes) -> Result<Bytes, OutOfMemory>
+    ensures { IfOk result (λ value. value ≡ merkle_value spelled) }
+{
+    if spelled.len() < HASH_LEN {
+        Ok(spelled)
+    } else {
+        Bytes::from_slice(alloc, &hash256(spelled.as_slice()))
+    }
+}

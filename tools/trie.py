@@ -1,0 +1,81 @@
+"""Polkadot's state trie of a finite map, state version 0, after the Polkadot Host specification: a plain model with which
+the other tools compare. `nodes(state)` lists the spellings that are hashed, root last, and `root(state)` is the root.
+"""
+import hashlib
+
+
+def blake2b_256(message):
+    return hashlib.blake2b(message, digest_size=32).digest()
+
+
+def nibbles(key):
+    return [half for byte in key for half in (byte >> 4, byte & 15)]
+
+
+def compact(number):
+    """A SCALE compact number below 2^30."""
+    if number < 1 << 6:
+        return bytes([number << 2])
+    if number < 1 << 14:
+        return (number << 2 | 1).to_bytes(2, "little")
+    return (number << 2 | 2).to_bytes(4, "little")
+
+
+def string(text):
+    return compact(len(text)) + text
+
+
+def header(kind, count):
+    if count < 63:
+        return bytes([kind << 6 | count])
+    rest = count - 63
+    return bytes([kind << 6 | 63]) + b"\xff" * (rest // 255) + bytes([rest % 255])
+
+
+def packed(partial):
+    partial = [0] + partial if len(partial) % 2 else partial
+    return bytes(high << 4 | low for high, low in zip(partial[::2], partial[1::2]))
+
+
+def shared(first, last):
+    count = 0
+    while count < min(len(first), len(last)) and first[count] == last[count]:
+        count += 1
+    return count
+
+
+def spelled(suffixes, hashed):
+    """The spelling of the node over sorted suffixes and their values; what is hashed below it goes to the list."""
+    front = shared(suffixes[0][0], suffixes[-1][0])
+    partial = suffixes[0][0][:front]
+    value = next((value for suffix, value in suffixes if len(suffix) == front), None)
+    children = {}
+    for suffix, each in suffixes:
+        if len(suffix) > front:
+            children.setdefault(suffix[front], []).append((suffix[front + 1:], each))
+    if not children:
+        return header(1, len(partial)) + packed(partial) + string(value)
+    kind = 2 if value is None else 3
+    node = header(kind, len(partial)) + packed(partial)
+    node += sum(1 << nibble for nibble in children).to_bytes(2, "little")
+    if value is not None:
+        node += string(value)
+    for nibble in sorted(children):
+        child = spelled(children[nibble], hashed)
+        if len(child) >= 32:
+            hashed.append(child)
+            child = blake2b_256(child)
+        node += string(child)
+    return node
+
+
+def nodes(state):
+    """The spellings that are hashed for the root of a map from bytes to bytes; the root node's is the last."""
+    hashed = []
+    suffixes = [(nibbles(key), value) for key, value in sorted(state.items())]
+    hashed.append(spelled(suffixes, hashed) if suffixes else b"\0")
+    return hashed
+
+
+def root(state):
+    return blake2b_256(nodes(state)[-1])
