@@ -1,4 +1,5 @@
 pub use Rattle.trie_model.specs.State
+pub use Rattle.trie_model.specs.Limits
 pub use Rattle.trie_model.specs.Node
 pub use Rattle.trie_model.specs.Trie
 pub mod Blocks

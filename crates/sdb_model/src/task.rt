@@ -1,4 +1,4 @@
-use sdb_base::{Block, BlockId, Bytes};
+use sdb_base::{Block, BlockId, Bytes, NodeHash};
 
 /// What one job is to do.
 #[derive(Debug, Drop)]
@@ -12,6 +12,11 @@ pub enum Task {
         /// The key.
         key: Bytes,
     },
+    /// The root of a block's state.
+    Root {
+        /// The block.
+        id: BlockId,
+    },
 }
 
 /// How a job ended.
@@ -23,6 +28,8 @@ pub enum Reply {
     Value(Bytes),
     /// The block's state hasn't the key.
     Nothing,
+    /// The root of the block's state.
+    Root(NodeHash),
     /// The job was refused, and changed nothing.
     Refused(Refusal),
 }

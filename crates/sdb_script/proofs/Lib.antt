@@ -7,3 +7,5 @@ pub mod OnLiterals
 pub mod Spelled
 pub mod WrittenLines
 pub mod WrittenWords
+pub mod Within
+pub mod LinesWithin

@@ -2,7 +2,7 @@
 use Rattle.std.proofs.Common.{◌≡◌, ℕ, ◌==◌, true, List, [], ◌∷◌, length, Option, Some, None, Bor, refl, arith}
 use Rattle.std.specs.Prelude.{is_some}
 use Rattle.std.proofs.lemmas.List.Splits.{length-slice_split}
-use Rattle.sdb_script.specs.Grammar.{new_of, read_of}
+use Rattle.sdb_script.specs.Grammar.{new_of, read_of, root_of}
 use Rattle.sdb_script.specs.Reading.{words_left}
 
 some_left : (rest : Option (Bor (List ℕ))) → is_some rest ≡ true → length (words_left rest) ≡ 0 → ⊥
@@ -24,3 +24,11 @@ read_three i k (w ∷ ws) h = refl
 
 pub read_longer : (i k : List ℕ) (rest : Option (Bor (List ℕ))) (left words : List (List ℕ)) → is_some rest ≡ true → words ≡ i ∷ left → left ≡ k ∷ words_left rest → read_of words ≡ None
 read_longer i k rest left words e is left_is = rw (is, left_is) (read_three i k (words_left rest) (some_left rest e))
+
+root_two : (i : List ℕ) (ws : List (List ℕ)) → (length ws ≡ 0 → ⊥) → root_of (i ∷ ws) ≡ None
+unfolding root_of
+root_two i [] h = absurd (h refl)
+root_two i (w ∷ ws) h = refl
+
+pub root_longer : (i : List ℕ) (rest : Option (Bor (List ℕ))) (words : List (List ℕ)) → is_some rest ≡ true → words ≡ i ∷ words_left rest → root_of words ≡ None
+root_longer i rest words e is = rw is (root_two i (words_left rest) (some_left rest e))

@@ -10,10 +10,10 @@ use Rattle.std.proofs.lemmas.List.Splits.{slice_split_at, slice_split_none}
 use Rattle.sdb_base.specs.declared.Block.{Block}
 use Rattle.sdb_base.specs.declared.BlockId.{BlockId}
 use Rattle.sdb_base.specs.declared.Change.{Change}
-use Rattle.sdb_model.specs.declared.Task.TheVariants.{Import, Read}
+use Rattle.sdb_model.specs.declared.Task.TheVariants.{Import, Read, Root}
 use Rattle.sdb_script.specs.declared.line.Line.{Line}
 use Rattle.sdb_script.specs.declared.line.Line.TheVariants.{Blank, New, Genesis, Job}
-use Rattle.sdb_script.specs.Grammar.{most_in_line, words_of, is_blank, each_change, changes_of, block_with, no_parent, new_of, genesis_of, import_of, read_of, line_of_words, line_of}
+use Rattle.sdb_script.specs.Grammar.{most_in_line, words_of, is_blank, each_change, changes_of, block_with, no_parent, new_of, genesis_of, import_of, read_of, root_of, line_of_words, line_of}
 use Rattle.sdb_script.specs.LineTexts.{id_text, change_text, line_text, IsChange, IsBlock, IsId, IsShort, IsWithin}
 use Rattle.sdb_script.specs.Texts.{bytes_text}
 use Rattle.sdb_script.specs.Words.{most_in_key}
@@ -72,6 +72,10 @@ read_back : (id : BlockId) (key : List ℕ) → IsId id → IsShort most_in_key 
 unfolding read_of
 read_back id key i k = rw (id_back id i, bytes_back most_in_key key k) refl
 
+root_back : (id : BlockId) → IsId id → root_of (id_text id ∷ []) ≡ Some (Job (Root id))
+unfolding root_of
+root_back id i = rw (id_back id i) refl
+
 -- whether a byte stands nowhere in a text
 abbrev is_free : List ℕ → Bool
 is_free [] = true
@@ -102,3 +106,6 @@ line_back (Job (Import block)) h le =
 line_back (Job (Read id key)) h le =
     let words = split_join (codes "read") (id_text id ∷ bytes_text key ∷ []) (list_free (codes "read") refl) (id_free id h.0, (bytes_free 32 refl refl key h.1.1, tt)) in
     line_is _ _ (Some (Job (Read id key))) le refl words (read_back id key h.0 h.1)
+line_back (Job (Root id)) h le =
+    let words = split_join (codes "root") (id_text id ∷ []) (list_free (codes "root") refl) (id_free id h, tt) in
+    line_is _ _ (Some (Job (Root id))) le refl words (root_back id h)

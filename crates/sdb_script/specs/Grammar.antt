@@ -7,7 +7,7 @@ use Rattle.std.specs.Str.{bytes_eq}
 use Rattle.sdb_base.specs.declared.Block.{Block}
 use Rattle.sdb_base.specs.declared.BlockId.{BlockId}
 use Rattle.sdb_base.specs.declared.Change.{Change}
-use Rattle.sdb_model.specs.declared.Task.TheVariants.{Import, Read}
+use Rattle.sdb_model.specs.declared.Task.TheVariants.{Import, Read, Root}
 use Rattle.sdb_script.specs.declared.line.Line.{Line}
 use Rattle.sdb_script.specs.declared.line.Line.TheVariants.{Blank, New, Genesis, Job}
 use Rattle.sdb_script.specs.Numbers.{number_within}
@@ -70,6 +70,11 @@ read_of (i ∷ (k ∷ [])) =
     option_and_then (λ id. option_map (λ key. Job (Read id key)) (bytes_of most_in_key k)) (id_of i)
 read_of _ = None
 
+-- behind `root`: ID
+unfoldable pub root_of : List (List ℕ) → Option Line
+root_of (i ∷ []) = option_map (λ id. Job (Root id)) (id_of i)
+root_of _ = None
+
 -- by the first word
 unfoldable pub line_of_words : List (List ℕ) → Option Line
 line_of_words [] = None
@@ -78,6 +83,7 @@ line_of_words (w ∷ ws) =
     else if bytes_eq w (codes "genesis") then genesis_of ws
     else if bytes_eq w (codes "import") then import_of ws
     else if bytes_eq w (codes "read") then read_of ws
+    else if bytes_eq w (codes "root") then root_of ws
     else None
 
 -- the line of a text; none where it is none

@@ -6,7 +6,7 @@ use Rattle.hex.specs.Hex.{encode_lower, IsBytes}
 use Rattle.sdb_base.specs.declared.Block.{Block}
 use Rattle.sdb_base.specs.declared.BlockId.{BlockId}
 use Rattle.sdb_base.specs.declared.Change.{Change}
-use Rattle.sdb_model.specs.declared.Task.TheVariants.{Import, Read}
+use Rattle.sdb_model.specs.declared.Task.TheVariants.{Import, Read, Root}
 use Rattle.sdb_script.specs.declared.line.Line.{Line}
 use Rattle.sdb_script.specs.declared.line.Line.TheVariants.{Blank, New, Genesis, Job}
 use Rattle.sdb_script.specs.Grammar.{most_changes, no_parent}
@@ -31,6 +31,7 @@ line_words (New base) = codes "new" ∷ decimal base ∷ []
 line_words (Genesis window block) = codes "genesis" ∷ id_text block.id ∷ decimal window ∷ map change_text block.changes
 line_words (Job (Import block)) = codes "import" ∷ id_text block.id ∷ id_text block.parent ∷ map change_text block.changes
 line_words (Job (Read id key)) = codes "read" ∷ id_text id ∷ bytes_text key ∷ []
+line_words (Job (Root id)) = codes "root" ∷ id_text id ∷ []
 
 -- the words with one space between them
 abbrev pub line_text : Line → List ℕ
@@ -63,3 +64,4 @@ IsWithin (New base) = base ≤ 16
 IsWithin (Genesis window block) = (1 ≤ window) × (window ≤ 4096) × IsBlock block × (block.parent ≡ no_parent)
 IsWithin (Job (Import block)) = IsBlock block
 IsWithin (Job (Read id key)) = IsId id × IsShort most_in_key key
+IsWithin (Job (Root id)) = IsId id

@@ -5,7 +5,7 @@ use Rattle.hex.specs.Hex.{encode_lower}
 use Rattle.sdb_model.specs.declared.Refusal.{Refusal}
 use Rattle.sdb_model.specs.declared.Refusal.TheVariants.{UnknownBlock, AlreadyExists, UnknownParent}
 use Rattle.sdb_model.specs.declared.Reply.{Reply}
-use Rattle.sdb_model.specs.declared.Reply.TheVariants.{Imported, Value, Nothing, Refused}
+use Rattle.sdb_model.specs.declared.Reply.TheVariants.{Imported, Value, Nothing, Root, Refused}
 use Rattle.sdb_script.specs.declared.line.LineReply.{LineReply}
 use Rattle.sdb_script.specs.declared.line.LineReply.TheVariants.{New, Genesis, Job}
 
@@ -24,6 +24,7 @@ abbrev pub job_text : Reply → List ℕ
 job_text (Imported number) = codes "import " ++ decimal number
 job_text (Value value) = codes "value " ++ bytes_text value
 job_text Nothing = codes "none"
+job_text (Root root) = codes "root " ++ encode_lower root.0
 job_text (Refused refusal) = codes "refused " ++ refusal_text refusal
 
 unfoldable pub reply_text : LineReply → List ℕ

@@ -7,13 +7,7 @@ use Rattle.std.specs.Str.{bytes_eq}
 use Rattle.hex.specs.Hex.{decode_of}
 use Rattle.sdb_base.specs.declared.BlockId.{BlockId}
 use Rattle.sdb_base.specs.declared.Change.{Change}
-
--- at most these many bytes in a key, and in a value
-abbrev pub most_in_key : ℕ
-most_in_key = 1024
-
-abbrev pub most_in_value : ℕ
-most_in_value = 4194304
+pub use Rattle.sdb_model.specs.Limits.{most_in_key, most_in_value}
 
 -- an id of at most 32 bytes, with zero bytes before it
 abbrev pub padded_id : List ℕ → BlockId

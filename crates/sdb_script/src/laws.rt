@@ -27,20 +27,27 @@ pub fn known_lines()
       version = 0;
     }))) }
     ensures read { line_of (codes "read 01 aA") ≡ Some (lines.Job (tasks.Read (record { 0 = replicate 31 0 ++ 1 ∷ [] }) (170 ∷ []))) }
+    ensures root { line_of (codes "root 0a") ≡ Some (lines.Job (tasks.Root (record { 0 = replicate 31 0 ++ 10 ∷ [] }))) }
     ensures none { map line_of (
         codes "new 00" ∷ codes "new 17" ∷ codes "new" ∷ codes "new 1 " ∷ codes "New 1"
         ∷ codes "read 01 a" ∷ codes "read 01  aa" ∷ codes "read 01 aa " ∷ codes "read  aa" ∷ codes "read 1 aa"
         ∷ codes "import 02 01 aa=" ∷ codes "import 02 01 !" ∷ codes "import 02 01 =01" ∷ codes "import 02 01 aa!!"
         ∷ codes "genesis 01 0" ∷ codes "genesis 01 4097" ∷ codes "canon 01"
         ∷ codes "read 000000000000000000000000000000000000000000000000000000000000000001 aa"
+        ∷ codes "root" ∷ codes "root 01 aa" ∷ codes "root 1"
         ∷ []
-        ) ≡ replicate 18 None }
+        ) ≡ replicate 21 None }
 {}
 
 /// A number is spelled by its decimal digits and by no other word.
 pub fn numbers_are_decimals()
     ensures read { (n : ℕ) → n < 2 ^ 64 → number_of (decimal n) ≡ Some n }
     ensures only { (w : List ℕ) (n : ℕ) → n < 2 ^ 64 → number_of w ≡ Some n → w ≡ decimal n }
+{}
+
+/// A text's line keeps the limits of the language.
+pub fn lines_keep_the_limits()
+    ensures { (text : List ℕ) (line : Line) → line_of text ≡ Some line → IsWithin line }
 {}
 
 /// Each line within the limits has a text, which is read as that line.

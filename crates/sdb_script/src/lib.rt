@@ -4,7 +4,7 @@
 //! `reply_text` appends a reply's text. The grammar stands in `specs/Grammar` by the words of the line, with
 //! `specs/Words` and `specs/Numbers` for single words, and the replies stand in `specs/Texts`. The laws of
 //! `laws` say the same in other words: lines of known texts, numbers as their decimal digits, and each line
-//! within the limits read as it is written (`specs/LineTexts`). What a line does, and which line may stand
+//! within the limits read as it is written, and no other line read (`specs/LineTexts`). What a line does, and which line may stand
 //! where, is left to the layers that carry it out.
 #![tactic(auto)]
 
@@ -17,7 +17,9 @@ mod parse;
 mod text;
 mod word;
 
-pub use laws::{known_lines, lines_are_read_as_written, numbers_are_decimals};
+pub use laws::{
+    known_lines, lines_are_read_as_written, lines_keep_the_limits, numbers_are_decimals,
+};
 pub use line::{Line, LineFault, LineReply};
 pub use parse::{MOST_IN_LINE, parse_line};
 pub use text::reply_text;

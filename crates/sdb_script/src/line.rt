@@ -23,7 +23,7 @@ pub enum Line {
         /// The block; its parent is 32 zero bytes.
         block: Block,
     },
-    /// A line that is one job: `import ID PARENT CHANGE ..` or `read ID KEY`.
+    /// A line that is one job: `import ID PARENT CHANGE ..`, `read ID KEY` or `root ID`.
     Job {
         /// The job's task.
         task: Task,

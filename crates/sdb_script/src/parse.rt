@@ -1,5 +1,6 @@
 ghost use Rattle.std.specs.Prelude.{◌≡◌, Some, None, IfOk, IsErrOf};
-ghost use Rattle.sdb_script.specs.Grammar.{line_of, is_blank, new_of, genesis_of, import_of, read_of, line_of_words, words_of};
+ghost use Rattle.sdb_script.specs.Grammar.{line_of, is_blank, new_of, genesis_of, import_of, read_of, root_of, line_of_words, words_of};
+ghost use Rattle.sdb_script.specs.LineTexts.{IsWithin};
 ghost use Rattle.sdb_script.specs.Reading.{Gives, words_left};
 
 use crate::changes::parse_changes;
@@ -93,26 +94,48 @@ fn parse_read(alloc: Global, words: Option<&[u8]>) -> Result<Line, LineFault>
     })
 }
 
+// The line of the words behind `root`.
+#[tactic(auto, unfolding(crate::specs::Grammar::root_of))]
+fn parse_root(words: Option<&[u8]>) -> Option<Line>
+    ensures { result ≡ root_of (words_left words.entry) }
+{
+    let (id, rest) = next_word(words)?;
+    if rest.is_some() {
+        return None;
+    }
+    let id = parse_id(id)?;
+    Some(Line::Job {
+        task: Task::Root { id },
+    })
+}
+
 // The line of a text of words.
 #[tactic(auto, unfolding(crate::specs::Grammar::line_of_words))]
 fn parse_words(alloc: Global, line: &[u8]) -> Result<Line, LineFault>
     ensures { Gives result (line_of_words (words_of line.now)) }
 {
     let (word, words) = first_word(line);
-    match word {
-        b"new" => parse_new(words).ok_or(LineFault::NotInGrammar),
-        b"genesis" => parse_genesis(alloc, words),
-        b"import" => parse_import(alloc, words),
-        b"read" => parse_read(alloc, words),
-        _ => Err(LineFault::NotInGrammar),
+    if word == b"new".as_slice() {
+        parse_new(words).ok_or(LineFault::NotInGrammar)
+    } else if word == b"genesis".as_slice() {
+        parse_genesis(alloc, words)
+    } else if word == b"import".as_slice() {
+        parse_import(alloc, words)
+    } else if word == b"read".as_slice() {
+        parse_read(alloc, words)
+    } else if word == b"root".as_slice() {
+        parse_root(words).ok_or(LineFault::NotInGrammar)
+    } else {
+        Err(LineFault::NotInGrammar)
     }
 }
 
-/// The line of a text, which is given without its line feed. `NotInGrammar` comes exactly where the text is no
+/// The line of a text, which is given without its line feed; it keeps the language's limits. `NotInGrammar` comes exactly where the text is no
 /// line, `OutOfMemory` for want of memory alone.
 #[tactic(auto, unfolding(crate::specs::Grammar::line_of))]
 pub fn parse_line(alloc: Global, line: &[u8]) -> Result<Line, LineFault>
     ensures line { IfOk result (λ l. line_of line.now ≡ Some l) }
+    ensures within { IfOk result IsWithin }
     ensures not_in_grammar { IsErrOf result LineFault.NotInGrammar → line_of line.now ≡ None }
 {
     if line.len() > MOST_IN_LINE {

@@ -1,5 +1,5 @@
 use super::*;
-use sdb_base::{BlockId, Bytes, Change};
+use sdb_base::{BlockId, Bytes, Change, NodeHash};
 use sdb_model::{Refusal, Reply, Task};
 use std::alloc::{AllocError, Global};
 use std::test::*;
@@ -102,6 +102,20 @@ fn read_lines(rt: HostRuntime) -> Result<(), Fail> {
 }
 
 #[test]
+fn root_lines(rt: HostRuntime) -> Result<(), Fail> {
+    for (text, want) in [("root 01", [0, 1]), ("root aBCd", [0xab, 0xcd])] {
+        let Line::Job {
+            task: Task::Root { id: found },
+        } = parse_line(rt.alloc(), text.as_bytes())?
+        else {
+            return Err(Fail::new(text));
+        };
+        assert_eq!(rt; found, id(want), "{text}");
+    }
+    Ok(())
+}
+
+#[test]
 fn texts_that_are_no_lines(rt: HostRuntime) {
     for text in [
         " ",
@@ -130,6 +144,11 @@ fn texts_that_are_no_lines(rt: HostRuntime) {
         "read 1 aa",
         "read 0g aa",
         "read 01 aa\n",
+        "root",
+        "root 1",
+        "root 01 ",
+        "root 01 aa",
+        "roots 01",
         "read 000000000000000000000000000000000000000000000000000000000000000001 aa",
         "#\n",
     ] {
@@ -188,6 +207,10 @@ fn replies(rt: HostRuntime) -> Result<(), Fail> {
         (LineReply::Job(Reply::Value(bytes)), "> value 001fab"),
         (LineReply::Job(Reply::Value(Bytes::new(alloc))), "> value -"),
         (LineReply::Job(Reply::Nothing), "> none"),
+        (
+            LineReply::Job(Reply::Root(NodeHash([0xa0; 32]))),
+            "> root a0a0a0a0a0a0a0a0a0a0a0a0a0a0a0a0a0a0a0a0a0a0a0a0a0a0a0a0a0a0a0a0",
+        ),
         (
             LineReply::Job(Reply::Refused(Refusal::UnknownBlock)),
             "> refused 1 UnknownBlock",

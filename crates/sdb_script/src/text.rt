@@ -48,6 +48,10 @@ fn append_job(alloc: Global, reply: &Reply, out: &mut Vec<u8>) -> Result<(), All
             append_both(b"value ", digits.as_bytes(), out)
         }
         Reply::Nothing => out.extend_from_slice(b"none"),
+        Reply::Root(root) => {
+            let digits = hex::encode(alloc, root.0.as_slice())?;
+            append_both(b"root ", digits.as_bytes(), out)
+        }
         Reply::Refused(refusal) => append_both(b"refused ", refusal_text(*refusal), out),
     }
 }

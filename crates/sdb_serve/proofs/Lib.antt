@@ -5,3 +5,4 @@ pub mod Keeping
 pub mod Running
 pub mod Closing
 pub mod Unique
+pub mod Lasting

@@ -3,10 +3,11 @@ use Rattle.std.specs.Prelude.{ℕ, ◌+◌, nat_le, List, ◌∷◌, if◌then�
 use Rattle.std.specs.FinMap.{get}
 use Rattle.sdb_base.specs.declared.Block.{Block}
 use Rattle.sdb_model.specs.State.{State}
+use Rattle.sdb_model.specs.Trie.{trie_root}
 use Rattle.sdb_model.specs.Blocks.{chain_of, count_at, number_of}
 use Rattle.sdb_model.specs.declared.Refusal.TheVariants.{UnknownBlock, AlreadyExists, UnknownParent}
 use Rattle.sdb_model.specs.declared.Reply.{Reply}
-use Rattle.sdb_model.specs.declared.Reply.TheVariants.{Imported, Value, Nothing, Refused}
+use Rattle.sdb_model.specs.declared.Reply.TheVariants.{Imported, Value, Nothing, Root, Refused}
 
 -- the value, or that there is none
 abbrev pub value_reply : Option (List ℕ) → Reply
@@ -17,6 +18,11 @@ value_reply (Some value) = Value value
 abbrev pub read_reply : Option State → List ℕ → Reply
 read_reply None key = Refused UnknownBlock
 read_reply (Some m) key = value_reply (get m key)
+
+-- the root of a block's state
+abbrev pub root_reply : Option State → Reply
+root_reply None = Refused UnknownBlock
+root_reply (Some m) = Root (record { 0 = trie_root m })
 
 -- at most so many blocks have one number
 abbrev pub most_siblings : ℕ
@@ -40,6 +46,7 @@ abbrev pub after_import : List Block → Block → Reply → List Block
 after_import blocks b (Imported n) = b ∷ blocks
 after_import blocks b (Value value) = blocks
 after_import blocks b Nothing = blocks
+after_import blocks b (Root root) = blocks
 after_import blocks b (Refused refusal) = blocks
 
 -- the same, where it isn't answered too

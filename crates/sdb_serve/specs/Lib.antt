@@ -4,3 +4,4 @@ pub mod Runs
 pub mod Blocks
 pub mod Steps
 pub mod Statuses
+pub mod Lengths

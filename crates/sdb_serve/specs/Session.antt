@@ -5,14 +5,14 @@ use Rattle.sdb_base.specs.declared.Block.{Block}
 use Rattle.sdb_model.specs.Blocks.{state_of}
 use Rattle.sdb_model.specs.declared.Reply.{Reply}
 use Rattle.sdb_model.specs.declared.Task.{Task}
-use Rattle.sdb_model.specs.declared.Task.TheVariants.{Import, Read}
+use Rattle.sdb_model.specs.declared.Task.TheVariants.{Import, Read, Root}
 use Rattle.sdb_script.specs.Grammar.{line_of}
 use Rattle.sdb_script.specs.Texts.{reply_text}
 use Rattle.sdb_script.specs.declared.Line.{Line}
 use Rattle.sdb_script.specs.declared.Line.TheVariants as lines
 use Rattle.sdb_script.specs.declared.LineReply.{LineReply}
 use Rattle.sdb_script.specs.declared.LineReply.TheVariants as replies
-use Rattle.sdb_serve.specs.Jobs.{after_import, import_reply, read_reply}
+use Rattle.sdb_serve.specs.Jobs.{after_import, import_reply, read_reply, root_reply}
 
 -- what is known after some lines
 pub record Session : Type 0 where
@@ -31,6 +31,7 @@ first_session = record { begun = false; window = 0; blocks = []; read = 0 }
 -- one job: its reply, and the blocks after it
 abbrev pub job_answered : List Block → Task → Option (Reply × List Block)
 job_answered blocks (Read id key) = Some (read_reply (state_of blocks id) key, blocks)
+job_answered blocks (Root id) = Some (root_reply (state_of blocks id), blocks)
 job_answered blocks (Import b) = option_map (λ reply. (reply, after_import blocks b reply)) (import_reply blocks b)
 
 -- A line's reply, and what is known after it; none where the line may not stand here: the first line that is

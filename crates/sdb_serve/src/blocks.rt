@@ -1,7 +1,8 @@
-ghost use Rattle.std.specs.Prelude.{◌≡◌, ◌↔◌, List, [], ◌∷◌, slice_index, IsTrue, IfOk, OnOk, OnErr, Some};
+ghost use Rattle.std.specs.Prelude.{◌≡◌, ◌↔◌, List, [], ◌∷◌, slice_index, All, IsTrue, IfOk, OnOk, OnErr, Some};
 ghost use Rattle.sdb_base.specs.declared.Block.{Block};
 ghost use Rattle.sdb_model.specs.Blocks.{state_of};
-ghost use Rattle.sdb_serve.specs.Jobs.{blocks_after, import_reply, read_reply};
+ghost use Rattle.sdb_script.specs.LineTexts.{IsChange};
+ghost use Rattle.sdb_serve.specs.Jobs.{blocks_after, import_reply, read_reply, root_reply};
 
 use crate::state_map::StateMap;
 use sdb_base::{Block, BlockId, Bytes, OutOfMemory, TryCopy};
@@ -52,6 +53,7 @@ impl BlockMap {
 
     /// Accepts genesis, where no block was accepted. An `Err` leaves the blocks as they were.
     pub(crate) fn genesis(&mut self, block: &Block) -> Result<(), OutOfMemory>
+        requires { All IsChange block.now.changes }
         ensures ok { Keeps self.old [] → OnOk result (Keeps self.new (block.now ∷ [])) }
         ensures err { (blocks : List Block) → Keeps self.old blocks → OnErr result (Keeps self.new blocks) }
     {
@@ -74,9 +76,21 @@ impl BlockMap {
         }
     }
 
+    /// The reply that is the root of a block's state.
+    pub(crate) fn root(&self, id: &BlockId) -> Result<Reply, OutOfMemory>
+        ensures { (blocks : List Block) → Keeps self.now blocks
+            → IfOk result (λ reply. reply ≡ root_reply (state_of blocks id.now)) }
+    {
+        match self.blocks.get(id) {
+            Some(kept) => Ok(Reply::Root(kept.state.root(self.alloc)?)),
+            None => Ok(Reply::Refused(Refusal::UnknownBlock)),
+        }
+    }
+
     /// The reply to an import of a block, which is then accepted unless it is refused; none where its number has as
     /// many blocks as it may have. An `Err` leaves the blocks as they were.
     pub(crate) fn import(&mut self, block: &Block) -> Result<Option<Reply>, OutOfMemory>
+        requires { All IsChange block.now.changes }
         ensures answer { (blocks : List Block) → Keeps self.old blocks
             → IfOk result (λ reply. reply ≡ import_reply blocks block.now) }
         ensures after { (blocks : List Block) → Keeps self.old blocks

@@ -2,6 +2,8 @@ ghost use Rattle.std.specs.Prelude.{◌≡◌, ◌+◌, ◌^◌, ◌≤◌, List
 ghost use Rattle.sdb_base.specs.declared.Block.{Block};
 ghost use Rattle.sdb_serve.specs.Session.{Session, answered, first_session, job_answered, line_played, reply_line};
 ghost use Rattle.sdb_script.specs.Grammar.{line_of};
+ghost use Rattle.sdb_script.specs.LineTexts.{IsWithin};
+ghost use Rattle.sdb_script.specs.declared.line.Line.TheVariants as lines;
 ghost use Rattle.sdb_serve.specs.Blocks.{Keeps};
 ghost use Rattle.sdb_serve.specs.declared.player.PlayFault.TheVariants.{NotAnswered, OutOfMemory};
 
@@ -55,6 +57,7 @@ pub(crate) struct Player {
 
 fn parsed(alloc: Global, line: &[u8]) -> Result<Line, PlayFault>
     ensures line { IfOk result (λ l. line_of line.now ≡ Some l) }
+    ensures within { IfOk result IsWithin }
     ensures refused { IsErrOf result PlayFault.NotAnswered → line_of line.now ≡ None }
 {
     match parse_line(alloc, line) {
@@ -80,12 +83,14 @@ fn write_reply(
 }
 
 fn job(blocks: &mut BlockMap, task: &Task) -> Result<Reply, PlayFault>
+    requires { IsWithin (lines.Job task.now) }
     ensures answer { (all : List Block) → Keeps blocks.old all → IfOk result (λ reply. (after : List Block)
         × (job_answered all task.now ≡ Some (reply, after)) × Keeps blocks.new after) }
     ensures refused { (all : List Block) → Keeps blocks.old all → IsErrOf result PlayFault.NotAnswered → job_answered all task.now ≡ None }
 {
     match task {
         Task::Read { id, key } => Ok(blocks.read(id, key)?),
+        Task::Root { id } => Ok(blocks.root(id)?),
         Task::Import(block) => match blocks.import(block)? {
             Some(reply) => Ok(reply),
             None => Err(PlayFault::NotAnswered),
@@ -120,6 +125,7 @@ impl Player {
     }
 
     fn answer(&mut self, line: &Line) -> Result<Option<LineReply>, PlayFault>
+        requires { IsWithin line.now }
         ensures answer { (s : Session) → Stands self.old s → IfOk result (λ reply. (next : Session)
             × (answered s line.now ≡ Some (reply, next)) × Stands self.new next) }
         ensures refused { (s : Session) → Stands self.old s → IsErrOf result PlayFault.NotAnswered → answered s line.now ≡ None }

@@ -1,14 +1,18 @@
-ghost use Rattle.std.specs.Prelude.{◌≡◌, IfOk, OnOk, OnErr};
+ghost use Rattle.std.specs.Prelude.{◌≡◌, All, IfOk, OnOk, OnErr};
 ghost use Rattle.std.specs.FinMap as map;
 ghost use Rattle.std.specs.Option.{option_copied};
 ghost use Rattle.sdb_model.specs.State.{apply, no_keys, with_key};
+ghost use Rattle.sdb_model.specs.Trie.{trie_root};
+ghost use Rattle.sdb_script.specs.LineTexts.{IsChange};
+ghost use Rattle.trie_root.specs.Pairs.{KeysRise, entries_of};
 
-use sdb_base::{Bytes, Change, OutOfMemory, TryCopy};
+use sdb_base::{Bytes, Change, NodeHash, OutOfMemory, Pair, Pairs, TryCopy};
 use std::alloc::Global;
 use std::collections::BTreeMap;
 use std::marker::Model;
+use trie_root::root_of;
 
-/// A state as a whole map, seen as the finite map of its keys.
+/// A state as a whole map, seen as the finite map of its keys. No key and no value is too long.
 #[derive(Drop)]
 pub(crate) struct StateMap {
     entries: BTreeMap<Bytes, Bytes>,
@@ -19,12 +23,15 @@ impl Model for StateMap {
     ghost use Rattle.std.specs.Coded.{coded_list, coded_ℕ};
     ghost use Rattle.std.specs.FinMap as map;
     ghost use Rattle.sdb_model.specs.State.{State};
+    ghost use Rattle.sdb_serve.specs.Lengths.{AllShort};
 
     ghost Value = { State };
 
     ghost coded = { map.code (coded_list coded_ℕ) (coded_list coded_ℕ) };
 
     ghost view = { λ s. map.from_entries s.entries.entries };
+
+    ghost invariant = { λ s. AllShort s.entries.entries };
 }
 
 impl StateMap {
@@ -46,6 +53,7 @@ impl StateMap {
 
     /// Sets the key of a change to its value, or deletes it. An `Err` changes nothing.
     pub(crate) fn change(&mut self, alloc: Global, change: &Change) -> Result<(), OutOfMemory>
+        requires { IsChange change.now }
         ensures ok { OnOk result (self.new ≡ with_key self.old change.now.key change.now.value) }
         ensures err { OnErr result (self.new ≡ self.old) }
     {
@@ -68,6 +76,7 @@ impl StateMap {
         alloc: Global,
         changes: &[Change],
     ) -> Result<StateMap, OutOfMemory>
+        requires { All IsChange changes.now }
         ensures { IfOk result (λ s. s ≡ apply self.now changes.now) }
     {
         let mut after = StateMap {
@@ -78,4 +87,27 @@ impl StateMap {
         }
         Ok(after)
     }
+
+    /// The root of the state.
+    pub(crate) fn root(&self, alloc: Global) -> Result<NodeHash, OutOfMemory>
+        ensures { IfOk result (λ root. root.0 ≡ trie_root self.now) }
+    {
+        let pairs = pairs_of(alloc, &self.entries)?;
+        root_of(alloc, &pairs)
+    }
+}
+
+// The keys with their values, by rising key.
+fn pairs_of(alloc: Global, entries: &BTreeMap<Bytes, Bytes>) -> Result<Pairs, OutOfMemory>
+    ensures entries { IfOk result (λ pairs. entries_of pairs ≡ entries.now.entries) }
+    ensures rise { IfOk result KeysRise }
+{
+    let mut pairs = Pairs::new(alloc);
+    for (key, value) in entries.iter() {
+        pairs.push(Pair {
+            key: key.copy(alloc)?,
+            value: value.copy(alloc)?,
+        })?;
+    }
+    Ok(pairs)
 }

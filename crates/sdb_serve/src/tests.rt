@@ -7,7 +7,7 @@ use std::test::*;
 // In the tables a bar ends a line.
 
 // Scripts that are answered to their end, and their replies.
-const ANSWERED: [(&str, &str); 10] = [
+const ANSWERED: [(&str, &str); 14] = [
     ("", ""),
     (
         "new 0|genesis 01 4 aa=01 bb=07|import 02 01 aa=02|import 03 01 aa=03|read 02 aa|read 03 aa|read 01 aa|read 02 bb|",
@@ -48,10 +48,30 @@ const ANSWERED: [(&str, &str); 10] = [
         "new|genesis|import 1|import 2|value 02|value 03|value 01|",
     ),
     ("# only a comment||", ""),
+    // the root of a state without keys
+    (
+        "new 0|genesis 01 256|root 01|",
+        "new|genesis|root 03170a2e7597b7b7e3d84c05391d139a62b157e78786d8c082f29dcf4c111314|",
+    ),
+    // two leaves that become one when a key is deleted, and the block before as it was
+    (
+        "new 0|genesis 01 4 aa=01 ab=02|import 02 01 ab!|root 02|root 01|root 03|",
+        "new|genesis|import 1|root 481f35c2eda667f1bc14d62b1c2ced344917448376fe30db2dc73b391ee1b514|root 71df5e47088fe469d8c944cab4a7f2c652ee1cf521ecfc05da70bd6e4d09fd64|refused 1 UnknownBlock|",
+    ),
+    // a key that begins another, and forks that come to one state by other ways
+    (
+        "new 0|genesis 01 4|import 02 01 aabb=02 aa=01|import 03 01 aa=02 cc=03|import 04 03 cc! aabb=02 aa=01|root 02|root 04|",
+        "new|genesis|import 1|import 1|import 2|root 31dd6a8ce6badc189353d9531e0a9054fe2f73fe72d6236de0c15ac4418d95fb|root 31dd6a8ce6badc189353d9531e0a9054fe2f73fe72d6236de0c15ac4418d95fb|",
+    ),
+    // a key without a value, and leaves of 31 and of 32 bytes
+    (
+        "new 0|genesis 01 4 aa=-|import 02 01 aa=ababababababababababababababababababababababababababababab ab=cdcdcdcdcdcdcdcdcdcdcdcdcdcdcdcdcdcdcdcdcdcdcdcdcdcdcdcdcdcd|root 01|root 02|",
+        "new|genesis|import 1|root 99bd6135a0892dc2efc5b792adb3280c24dcf8dde8290f64faa78cbeb86996a9|root 376fa5c51f83f54e94cb4b89cf2be4d9d0ae795444a502edc7bf6b84d34738c5|",
+    ),
 ];
 
 // Scripts that stop at a bad line, and what is written up to it.
-const STOPPED: [(&str, &str); 8] = [
+const STOPPED: [(&str, &str); 10] = [
     // the last line has no line feed
     ("new 0|genesis 01 4", "new|stop 3 line 2|"),
     // comments and empty lines are counted
@@ -61,6 +81,11 @@ const STOPPED: [(&str, &str); 8] = [
     ),
     // lines that may not stand where they stand
     ("new 0|read 01 aa|", "new|stop 3 line 2|"),
+    ("new 0|root 01|", "new|stop 3 line 2|"),
+    (
+        "new 0|genesis 01 4|root 01 aa|",
+        "new|genesis|stop 3 line 3|",
+    ),
     ("new 0|genesis 01 4|new 0|", "new|genesis|stop 3 line 3|"),
     (
         "new 0|genesis 01 4|genesis 02 4|",

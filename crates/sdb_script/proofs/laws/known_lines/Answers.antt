@@ -22,6 +22,10 @@ pub returns-clause-read : goal.returns-clause-read
 unfolding script_on_literals
 returns-clause-read c = refl
 
+pub returns-clause-root : goal.returns-clause-root
+unfolding script_on_literals
+returns-clause-root c = refl
+
 pub returns-clause-none : goal.returns-clause-none
 unfolding script_on_literals
 returns-clause-none c = refl

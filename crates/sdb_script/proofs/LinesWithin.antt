@@ -1,0 +1,152 @@
+-- The line of a text keeps the limits.
+use Rattle.std.proofs.Common.{◌≡◌, ℕ, suc, ◌≤◌, Bool, true, false, ◌&&◌, cond, List, [], ◌∷◌, length, Some, None, Result, Ok, Err, refl, ap, subst, arith}
+use Rattle.std.specs.Prelude.{IfOk, nat_le, nat_lt, codes}
+use Rattle.std.specs.Option.{option_map}
+use Rattle.std.specs.List.{AllByRecursion, after_first, before_first, list_any}
+use Rattle.std.specs.Str.{bytes_eq}
+use Rattle.std.proofs.lemmas.Bool.{and_parts, leb-true}
+use Rattle.std.proofs.lemmas.Option.{none-some, same_Some}
+use Rattle.sdb_base.specs.declared.BlockId.{BlockId}
+use Rattle.sdb_base.specs.declared.Change.{Change}
+use Rattle.sdb_model.specs.declared.Task.TheVariants.{Import, Read, Root}
+use Rattle.sdb_script.specs.declared.line.Line.{Line}
+use Rattle.sdb_script.specs.declared.line.Line.TheVariants.{Blank, New, Genesis, Job}
+use Rattle.sdb_script.specs.declared.line.LineFault.{LineFault}
+use Rattle.sdb_script.specs.declared.line.LineFault.TheVariants.{NotInGrammar, OutOfMemory}
+use Rattle.sdb_script.specs.Reading.{Gives}
+use Rattle.sdb_script.specs.Grammar.{block_with, changes_of, each_change, genesis_of, import_of, is_blank, line_of, line_of_words, most_changes, most_in_line, new_of, no_parent, read_of, root_of, words_of}
+use Rattle.sdb_script.specs.LineTexts.{IsBlock, IsChange, IsId, IsWithin}
+use Rattle.sdb_script.specs.Numbers.{number_of, number_within}
+use Rattle.sdb_script.specs.Words.{bytes_of, change_of, change_to, deletion_of, id_of, is_equals, is_exclamation, most_in_key, most_in_value, setting_of}
+use Rattle.sdb_script.proofs.Within.{bytes_within, chosen, id_within, map_some, passed, then_some, zeros_are_bytes}
+
+-- ---- changes
+
+set_within : (w : List ℕ) (c : Change) → setting_of w ≡ Some c → IsChange c
+set_within w c h =
+    let k = then_some _ (bytes_of most_in_key (before_first is_equals w)) c h in
+    let v = map_some (λ value. change_to k.0 (Some value)) (bytes_of most_in_value (after_first is_equals w)) c k.2 in
+    subst IsChange v.2 (record {
+      trie = refl;
+      key = bytes_within most_in_key (before_first is_equals w) k.0 k.1;
+      value = bytes_within most_in_value (after_first is_equals w) v.0 v.1;
+    })
+
+delete_within : (w : List ℕ) (c : Change) → deletion_of w ≡ Some c → IsChange c
+delete_within w c h =
+    chosen IsChange _ (option_map (λ key. change_to key None) (bytes_of most_in_key (before_first is_exclamation w))) None c h
+    (λ e. let k = map_some (λ key. change_to key None) (bytes_of most_in_key (before_first is_exclamation w)) c e in
+    subst IsChange k.2 (record { trie = refl; key = bytes_within most_in_key (before_first is_exclamation w) k.0 k.1; value = tt }))
+    (λ e. absurd (none-some c e))
+
+change_within : (w : List ℕ) (c : Change) → change_of w ≡ Some c → IsChange c
+unfolding change_of
+change_within w c h =
+    chosen IsChange (list_any is_equals w) (setting_of w) (deletion_of w) c h (set_within w c) (delete_within w c)
+
+each_within : (ws : List (List ℕ)) (cs : List Change) → each_change ws ≡ Some cs → AllByRecursion IsChange cs × (length cs ≡ length ws)
+unfolding each_change
+each_within [] cs h = let e : [] ≡ cs = same_Some [] cs h in rw (← e) (tt, refl)
+each_within (w ∷ ws) cs h =
+    let c = then_some (λ c. option_map (λ rest. c ∷ rest) (each_change ws)) (change_of w) cs h in
+    let rest = map_some (λ rest. c.0 ∷ rest) (each_change ws) cs c.2 in
+    let others = each_within ws rest.0 rest.1 in
+    let e : c.0 ∷ rest.0 ≡ cs = rest.2 in
+    rw (← e) ((change_within w c.0 c.1, others.0), ap suc others.1)
+
+few_changes : (ws : List (List ℕ)) (cs : List Change) (few : Bool) → nat_le (length ws) most_changes ≡ few → cond few (each_change ws) None ≡ Some cs
+    → AllByRecursion IsChange cs × (length cs ≤ most_changes)
+few_changes ws cs true e h = let each = each_within ws cs h in (each.0, omega (arith, each.1, leb-true (length ws) most_changes e))
+few_changes ws cs false e h = absurd (none-some cs h)
+
+changes_within : (ws : List (List ℕ)) (cs : List Change) → changes_of ws ≡ Some cs → AllByRecursion IsChange cs × (length cs ≤ most_changes)
+unfolding changes_of
+changes_within ws cs h = few_changes ws cs (nat_le (length ws) most_changes) refl h
+
+-- ---- lines
+
+number_within_is : (low high : ℕ) (w : List ℕ) (n : ℕ) → number_within low high w ≡ Some n → (low ≤ n) × (n ≤ high)
+number_within_is low high w n h =
+    let k = then_some (λ k. cond (nat_le low k && nat_le k high) (Some k) None) (number_of w) n h in
+    let p = passed (nat_le low k.0 && nat_le k.0 high) k.0 n k.2 in
+    let both = and_parts (nat_le low k.0) (nat_le k.0 high) p.0 in
+    let above = leb-true low k.0 both.0 in
+    let below = leb-true k.0 high both.1 in
+    (omega (arith, p.1), omega (arith, p.1))
+
+no_parent_is_id : IsId no_parent
+no_parent_is_id = (refl, zeros_are_bytes 32)
+
+-- a block of words that were read
+block_is : (id parent : BlockId) (cs : List Change) → IsId id → IsId parent → AllByRecursion IsChange cs × (length cs ≤ most_changes) → IsBlock (block_with id parent cs)
+block_is id parent cs i p h = record { id = i; parent = p; few = h.1; changes = h.0; version = refl }
+
+new_is : (ws : List (List ℕ)) (line : Line) → new_of ws ≡ Some line → IsWithin line
+unfolding new_of
+new_is [] line h = absurd (none-some line h)
+new_is (b ∷ []) line h =
+    let n = map_some (λ base. New base) (number_within 0 16 b) line h in
+    subst IsWithin n.2 (number_within_is 0 16 b n.0 n.1).1
+new_is (b ∷ (w ∷ ws)) line h = absurd (none-some line h)
+
+genesis_is : (ws : List (List ℕ)) (line : Line) → genesis_of ws ≡ Some line → IsWithin line
+unfolding genesis_of
+genesis_is [] line h = absurd (none-some line h)
+genesis_is (i ∷ []) line h = absurd (none-some line h)
+genesis_is (i ∷ (w ∷ cs)) line h =
+    let id = then_some _ (id_of i) line h in
+    let window = then_some _ (number_within 1 4096 w) line id.2 in
+    let changes = map_some (λ changes. Genesis window.0 (block_with id.0 no_parent changes)) (changes_of cs) line window.2 in
+    let n = number_within_is 1 4096 w window.0 window.1 in
+    subst IsWithin changes.2 (n.0, n.1, block_is id.0 no_parent changes.0 (id_within i id.0 id.1) no_parent_is_id (changes_within cs changes.0 changes.1), refl)
+
+import_is : (ws : List (List ℕ)) (line : Line) → import_of ws ≡ Some line → IsWithin line
+unfolding import_of
+import_is [] line h = absurd (none-some line h)
+import_is (i ∷ []) line h = absurd (none-some line h)
+import_is (i ∷ (p ∷ cs)) line h =
+    let id = then_some _ (id_of i) line h in
+    let parent = then_some _ (id_of p) line id.2 in
+    let changes = map_some (λ changes. Job (Import (block_with id.0 parent.0 changes))) (changes_of cs) line parent.2 in
+    subst IsWithin changes.2 (block_is id.0 parent.0 changes.0 (id_within i id.0 id.1) (id_within p parent.0 parent.1) (changes_within cs changes.0 changes.1))
+
+read_is : (ws : List (List ℕ)) (line : Line) → read_of ws ≡ Some line → IsWithin line
+unfolding read_of
+read_is [] line h = absurd (none-some line h)
+read_is (i ∷ []) line h = absurd (none-some line h)
+read_is (i ∷ (k ∷ [])) line h =
+    let id = then_some _ (id_of i) line h in
+    let key = map_some (λ key. Job (Read id.0 key)) (bytes_of most_in_key k) line id.2 in
+    subst IsWithin key.2 (id_within i id.0 id.1, bytes_within most_in_key k key.0 key.1)
+read_is (i ∷ (k ∷ (w ∷ ws))) line h = absurd (none-some line h)
+
+root_is : (ws : List (List ℕ)) (line : Line) → root_of ws ≡ Some line → IsWithin line
+unfolding root_of
+root_is [] line h = absurd (none-some line h)
+root_is (i ∷ []) line h =
+    let id = map_some (λ id. Job (Root id)) (id_of i) line h in
+    subst IsWithin id.2 (id_within i id.0 id.1)
+root_is (i ∷ (w ∷ ws)) line h = absurd (none-some line h)
+
+words_are : (ws : List (List ℕ)) (line : Line) → line_of_words ws ≡ Some line → IsWithin line
+unfolding line_of_words
+words_are [] line h = absurd (none-some line h)
+words_are (w ∷ ws) line h =
+    chosen IsWithin (bytes_eq w (codes "new")) (new_of ws) _ line h (new_is ws line)
+    (λ h1. chosen IsWithin (bytes_eq w (codes "genesis")) (genesis_of ws) _ line h1 (genesis_is ws line)
+    (λ h2. chosen IsWithin (bytes_eq w (codes "import")) (import_of ws) _ line h2 (import_is ws line)
+    (λ h3. chosen IsWithin (bytes_eq w (codes "read")) (read_of ws) _ line h3 (read_is ws line)
+    (λ h4. chosen IsWithin (bytes_eq w (codes "root")) (root_of ws) None line h4 (root_is ws line)
+    (λ h5. absurd (none-some line h5))))))
+
+pub gives_within : (ws : List (List ℕ)) (r : Result Line LineFault) → Gives r (line_of_words ws) → IfOk r IsWithin
+gives_within ws (Ok line) h = words_are ws line h
+gives_within ws (Err NotInGrammar) h = tt
+gives_within ws (Err OutOfMemory) h = tt
+
+pub line_within : (text : List ℕ) (line : Line) → line_of text ≡ Some line → IsWithin line
+unfolding line_of
+line_within text line h =
+    chosen IsWithin (nat_lt most_in_line (length text)) None _ line h (λ e. absurd (none-some line e))
+    (λ e. chosen IsWithin (is_blank text) (Some Blank) (line_of_words (words_of text)) line e
+    (λ b. subst IsWithin (same_Some Blank line b) tt) (words_are (words_of text) line))

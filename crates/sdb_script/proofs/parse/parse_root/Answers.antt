@@ -1,0 +1,7 @@
+use Rattle.std.proofs.Common.{sym, ◌∙◌}
+use Rattle.sdb_script.specs.Reading.{words_left}
+use Rattle.sdb_script.proofs.Longer.{root_longer}
+use Rattle.sdb_script.proofs.parse.parse_root.Goals as goal
+
+pub returns-then-is_some : goal.returns-then-is_some
+returns-then-is_some c = sym (root_longer c.in_ok-id.id.now c.in_ok-id.rest (words_left c.args.words) (sym c.is_some.ensures ∙ c.if-is_some.true) c.in_ok-id.ensures)
