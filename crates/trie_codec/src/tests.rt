@@ -92,9 +92,10 @@ type Row = (
     &'static [u8],
 );
 
-const NODES: [Row; 7] = [
+const NODES: [Row; 8] = [
     (b"", None, &[], b"\x00"),
     (b"\x0a\x0a", Some(b""), &[], b"\x42\xaa\x00"),
+    (b"\x0a\x0a", Some(b"\x01"), &[], b"\x42\xaa\x04\x01"),
     // an odd partial key, whose zero half stands in front
     (b"\x01\x02\x03", Some(b"\x04"), &[], b"\x43\x01\x23\x04\x04"),
     (
