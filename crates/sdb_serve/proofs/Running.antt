@@ -17,6 +17,7 @@ use Rattle.sdb_serve.specs.Session.{Session, first_session, line_played, played}
 use Rattle.sdb_serve.specs.Runs.{BeginsWith, HasNoLineFeed, IsBad, IsRun, Run, ended}
 use Rattle.sdb_serve.specs.Steps.{Halts, IsAt, LineAnswered, LineStops, PieceAnswered, Stands}
 use Rattle.sdb_serve.specs.declared.player.Player.{Player}
+use Rattle.sdb_script.proofs.Within.{map_some, then_some}
 use Rattle.sdb_serve.specs.declared.status.Status.{Status}
 use Rattle.sdb_serve.specs.declared.status.Status.TheVariants.{Done, Usage, Script, SourceFault, SinkFault, NoMemory}
 
@@ -24,14 +25,6 @@ use Rattle.sdb_serve.specs.declared.status.Status.TheVariants.{Done, Usage, Scri
 
 pub some_is : {A : Type 0} (x y : A) → ◌≡◌ {A = Option A} (Some x) (Some y) → x ≡ y
 some_is x y e = cc
-
-pub map_some : {A B : Type 0} (f : A → B) (o : Option A) (y : B) → option_map f o ≡ Some y → (x : A) × (o ≡ Some x) × (f x ≡ y)
-map_some f None y e = absurd cc
-map_some f (Some x) y e = (x, refl, cc)
-
-pub then_some : {A B : Type 0} (f : A → Option B) (o : Option A) (y : B) → option_and_then f o ≡ Some y → (x : A) × (o ≡ Some x) × (f x ≡ Some y)
-then_some f None y e = absurd cc
-then_some f (Some x) y e = (x, refl, e)
 
 clear_cons : (x : ℕ) (xs : List ℕ) → x ≢ 10 → HasNoLineFeed xs → HasNoLineFeed (x ∷ xs)
 clear_cons x xs ne clear zero d lt = ne

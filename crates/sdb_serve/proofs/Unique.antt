@@ -5,7 +5,8 @@ use Rattle.std.specs.Option.{option_map}
 use Rattle.std.specs.List.{flat_map}
 use Rattle.sdb_serve.specs.Session.{Session, first_session, line_played, played}
 use Rattle.sdb_serve.specs.Runs.{BeginsWith, HasNoLineFeed, IsBad, IsFirstBad, IsRun, IsScript, Run, ended}
-use Rattle.sdb_serve.proofs.Running.{map_some, some_is, then_some}
+use Rattle.sdb_script.proofs.Within.{map_some, then_some}
+use Rattle.sdb_serve.proofs.Running.{some_is}
 
 clear_tail : (x : ℕ) (xs : List ℕ) → HasNoLineFeed (x ∷ xs) → HasNoLineFeed xs
 clear_tail x xs h k d lt = h (suc k) d (omega arith)

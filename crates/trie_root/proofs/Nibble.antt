@@ -1,10 +1,7 @@
 -- A key's nibbles, one by one.
-use Rattle.std.proofs.Common.{◌≡◌, ℕ, zero, suc, ◌*◌, ◌/◌, ◌%◌, List, [], ◌∷◌, length, get_or, refl, arith}
+use Rattle.std.proofs.Common.{◌≡◌, ℕ, zero, suc, ◌/◌, ◌%◌, List, [], ◌∷◌, get_or, refl, arith}
 use Rattle.sdb_base.specs.Nibbles.{nibbles_of}
-
-pub length-nibbles_of : (k : List ℕ) → length (nibbles_of k) ≡ 2 * length k
-length-nibbles_of [] = refl
-length-nibbles_of (b ∷ bs) = omega (arith, length-nibbles_of bs)
+pub use Rattle.trie_codec.proofs.Partial.{length-nibbles_of}
 
 pub high_half : (k : List ℕ) (i : ℕ) → i % 2 ≡ 0 → get_or k (i / 2) 0 / 16 ≡ get_or (nibbles_of k) i 0
 high_half [] i e = refl
