@@ -130,8 +130,8 @@ fn parse_words(alloc: Global, line: &[u8]) -> Result<Line, LineFault>
     }
 }
 
-/// The line of a text, which is given without its line feed; it keeps the language's limits. `NotInGrammar` comes exactly where the text is no
-/// line, `OutOfMemory` for want of memory alone.
+/// The line of a text, which is given without its line feed; it keeps the language's limits. `NotInGrammar` comes
+/// only where the text is no line, `OutOfMemory` for want of memory alone.
 #[tactic(auto, unfolding(crate::specs::Grammar::line_of))]
 pub fn parse_line(alloc: Global, line: &[u8]) -> Result<Line, LineFault>
     ensures line { IfOk result (λ l. line_of line.now ≡ Some l) }

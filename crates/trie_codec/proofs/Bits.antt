@@ -6,8 +6,7 @@ use Rattle.std.proofs.lemmas.Bool.Decides.{nat_tests}
 use Rattle.std.proofs.lemmas.Nat.{ones_cat}
 use Rattle.std.specs.Int.Count.{ones, ones_in}
 use Rattle.std.proofs.Math.Nat.{pow-suc}
-use Rattle.trie_codec.specs.Reading.{bits_set}
-use Rattle.trie_codec.specs.Steps.{bitmap_at}
+use Rattle.trie_codec.specs.Reading.{bitmap_at, bits_set}
 
 ones-zero : ones 0 ≡ 0
 unfolding ones ones_in

@@ -9,7 +9,7 @@ use Rattle.std.proofs.lemmas.Nat.{le_bytes_2}
 use Rattle.trie_model.specs.Nibbles.{packed}
 use Rattle.trie_model.specs.Node.{IsPartial, IsText, Node, bitmap, branch_kind, header, optional_string, spelling}
 use Rattle.trie_codec.specs.declared.fault.CodecFault.{CodecFault}
-use Rattle.trie_codec.specs.Reading.{◌>>=◌, bits_set, branch_at, bytes_at, children_at, string_at, value_at}
+use Rattle.trie_codec.specs.Reading.{◌>>=◌, bitmap_at, bits_set, branch_at, bytes_at, children_at, string_at, value_at}
 use Rattle.trie_codec.proofs.ReadSteps.{AreBytes, value_is, both_gave, bytes_in_parts, taken}
 use Rattle.trie_codec.proofs.ReadString.{each_byte, string_read, two_below}
 use Rattle.trie_codec.proofs.ReadChildren.{AreChildrenIn, IsSound, children_read}
@@ -99,8 +99,10 @@ pub branch_read : (reads : List ℕ → Bool) (P : Node → Type 0) → IsSound 
     → AreBytes bytes → 2 ≤ kind → kind ≤ 3 → IsPartial partial → branch_at reads kind partial bytes ≡ Ok x → IsNodeBehind P kind partial bytes x
 unfolding checked
 branch_read reads P sound kind partial bytes x all least most few e =
-    let (two, take, second) = both_gave (bytes_at 2 bytes) (λ two. checked kind (from_le_bytes w16 two.0) >>= λ map. value_at kind two.1 >>= lower reads partial map) x e in
+    let (found, bitmap_gave, third) = both_gave (bitmap_at kind bytes) (λ map. value_at kind map.1 >>= lower reads partial map.0) x e in
+    let (two, take, second) = both_gave (bytes_at 2 bytes) (λ two. checked kind (from_le_bytes w16 two.0) >>= λ map. Ok (map, two.1)) found bitmap_gave in
     let (len, split) = taken 2 bytes two take in
-    let (map, check, third) = both_gave (checked kind (from_le_bytes w16 two.0)) (λ map. value_at kind two.1 >>= lower reads partial map) x second in
+    let (map, check, pair) = both_gave (checked kind (from_le_bytes w16 two.0)) (λ map. Ok (map, two.1)) found second in
     let (is, some, enough) = not_refused kind (from_le_bytes w16 two.0) map check in
-    behind_bitmap reads P sound kind map partial bytes two x all least most few len split is some enough third
+    let rest = subst (λ (f : ℕ × List ℕ). (value_at kind f.1 >>= lower reads partial f.0) ≡ Ok x) (sym (value_is (map, two.1) found pair)) third in
+    behind_bitmap reads P sound kind map partial bytes two x all least most few len split is some enough rest

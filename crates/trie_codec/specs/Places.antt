@@ -10,7 +10,8 @@ use Rattle.trie_codec.specs.declared.node_ref.NodeRef.{NodeRef}
 abbrev pub place_in : Bor (List ℕ) → Bor (List ℕ) → ℕ
 place_in input part = part.ref_ptr.1 - input.ref_ptr.1
 
--- A slice is the part of the input behind which so many bytes stand: it lies in the input's memory, has the bytes that stand at its place, and ends so many bytes before the input does.
+-- A slice is the part of the input behind which so many bytes stand: it lies in the input's memory, has the bytes that
+-- stand at its place, and ends so many bytes before the input does.
 pub record IsPart (input part : Bor (List ℕ)) (behind : ℕ) : Type 0 where
   pub block : part.ref_ptr.0 ≡ input.ref_ptr.0
   pub begins : input.ref_ptr.1 ≤ part.ref_ptr.1
@@ -21,7 +22,8 @@ pub record IsPart (input part : Bor (List ℕ)) (behind : ℕ) : Type 0 where
 abbrev pub children_from : ℕ → Node → List ℕ
 children_from i n = flat_map optional_string (drop i n.children)
 
--- Where a node's value and children lie in an input that has so many bytes behind the node: all children stand behind the value, and the later children behind a child.
+-- Where a node's value and children lie in an input that has so many bytes behind the node: all children stand behind
+-- the value, and the later children behind a child.
 abbrev pub LendsParts : Bor (List ℕ) → NodeRef → ℕ → Type 0
 LendsParts input r behind =
     IfSome (value_lent r) (λ v. IsPart input v (length (children_from 0 (parts_of r)) + behind))

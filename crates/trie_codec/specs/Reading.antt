@@ -118,13 +118,19 @@ leaf_at partial bytes = do
 abbrev pub value_at : ℕ → List ℕ → Result (Option (List ℕ) × List ℕ) CodecFault
 value_at kind bytes = if kind == 3 then (string_at bytes >>= λ v. Ok (Some v.0, v.1)) else Ok (None, bytes)
 
-abbrev pub branch_at : (List ℕ → Bool) → ℕ → List ℕ → List ℕ → Result (Node × List ℕ) CodecFault
-branch_at reads kind partial bytes = do
+-- the bitmap of a branch: a child at least, and of kind 2, which has no value, two
+abbrev pub bitmap_at : ℕ → List ℕ → Result (ℕ × List ℕ) CodecFault
+bitmap_at kind bytes = do
   two ← bytes_at 2 bytes
   map ← (let map = from_le_bytes w16 two.0 in
       if (map == 0) || ((bits_set map 16 == 1) && (kind == 2)) then Err BadBitmap else Ok map)
-  value ← value_at kind two.1
-  children ← children_at reads 16 map value.1
+  Ok (map, two.1)
+
+abbrev pub branch_at : (List ℕ → Bool) → ℕ → List ℕ → List ℕ → Result (Node × List ℕ) CodecFault
+branch_at reads kind partial bytes = do
+  map ← bitmap_at kind bytes
+  value ← value_at kind map.1
+  children ← children_at reads 16 map.0 value.1
   Ok (record { partial = partial; value = value.0; children = children.0 }, children.1)
 
 abbrev pub body_at : (List ℕ → Bool) → Header → List ℕ → Result (Node × List ℕ) CodecFault

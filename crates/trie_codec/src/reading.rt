@@ -6,8 +6,8 @@ ghost use Rattle.trie_model.specs.Node.{IsNode, Node, optional_string, spelling}
 ghost use Rattle.trie_codec.specs.Gives.{Gives, bytes_in};
 ghost use Rattle.trie_codec.specs.NodeParts.{parts_of};
 ghost use Rattle.trie_codec.specs.Places.{IsPart, LendsParts};
-ghost use Rattle.trie_codec.specs.Reading.{branch_at, bytes_at, child_at, children_at, count_at, header_at, leaf_at, length_at, node_at, node_of_bytes, partial_at, reads_inline, string_at, value_at};
-ghost use Rattle.trie_codec.specs.Steps.{bitmap_at, lowest_child_at};
+ghost use Rattle.trie_codec.specs.Reading.{bitmap_at, branch_at, bytes_at, child_at, children_at, count_at, header_at, leaf_at, length_at, node_at, node_of_bytes, partial_at, reads_inline, string_at, value_at};
+ghost use Rattle.trie_codec.specs.Steps.{lowest_child_at};
 
 use crate::fault::CodecFault;
 use crate::node_ref::NodeRef;

@@ -21,7 +21,8 @@ pub fn equal_states_have_one_trie()
 {}
 
 /// Nodes that the definitions give, by computing: the header of each length at which it grows, the node of the empty
-/// trie, a leaf of three nibbles, and root nodes of one key, of a key that another one extends, and of two keys that differ in their last nibble.
+/// trie, a leaf of three nibbles, and root nodes of one key, of a key that another one extends, and of two keys that
+/// differ in their last nibble.
 pub fn known_nodes()
     ensures headers { (header 1 62 ≡ 0x7e ∷ []) × (header 1 63 ≡ 0x7f ∷ (0 ∷ [])) × (header 1 64 ≡ 0x7f ∷ (1 ∷ [])) × (header 1 318 ≡ 0x7f ∷ (0xff ∷ (0 ∷ []))) }
     ensures nothing { spelling (node_over 1 []) ≡ 0 ∷ [] }
