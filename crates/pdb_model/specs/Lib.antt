@@ -1,0 +1,5 @@
+pub mod Tiers
+pub mod Heads
+pub mod Chunks
+pub mod Slots
+pub mod Gates
