@@ -3,3 +3,4 @@ pub mod Heads
 pub mod Chunks
 pub mod Slots
 pub mod Gates
+pub mod Tables
