@@ -18,10 +18,10 @@ mod op;
 mod pair;
 
 pub use block::{Block, BlockId, Prepared};
-pub use bytes::Bytes;
+pub use bytes::{ByteString, Bytes};
 pub use change::{Change, Changes};
-pub use items::{Items, TryCopy};
-pub use nibbles::Nibbles;
+pub use items::{Items, Sequence, TryCopy, Typed};
+pub use nibbles::{NibbleString, Nibbles};
 pub use node::{HashList, Node, NodeHash, NodeList};
 pub use op::{Op, Ops};
 pub use pair::{Pair, Pairs};
