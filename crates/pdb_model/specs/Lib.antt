@@ -3,4 +3,8 @@ pub mod Heads
 pub mod Chunks
 pub mod Slots
 pub mod Gates
+pub mod Records
 pub mod Tables
+pub mod Files
+pub mod Breaks
+pub mod Columns

@@ -1,7 +1,7 @@
 -- Slots: cells of the value tables. Slot i of a tier is cell i of its file, and slots start at 1.
 use Rattle.std.specs.Prelude.{◌≡◌, ℕ, ◌+◌, ◌-◌, ◌^◌, ◌<◌, ◌≤◌, List, [], ◌∷◌, ◌++◌, length, replicate, All}
 use Rattle.std.specs.Int.{w16, w32, w64, to_le_bytes}
-use Rattle.pdb_model.specs.Tiers.{before_value, in_head, in_part, most_in_value, parts_tier, slot_size, tier_of}
+use Rattle.pdb_model.specs.Tiers.{before_value, in_head, in_part, most_stored, parts_tier, slot_size, tier_of}
 
 -- zeros up to the end of a cell of this size that begins with these bytes
 abbrev pub padded : ℕ → List ℕ → List ℕ
@@ -45,7 +45,7 @@ pub record IsHeadOfParts (cell key : List ℕ) (count whole next : ℕ) (value :
   pub counted : IsCounted key count
   pub full : length value ≡ in_head
   pub long : tier_of whole ≡ parts_tier
-  pub not_too_long : whole ≤ most_in_value
+  pub not_too_long : whole ≤ most_stored
   pub narrow : next < 2 ^ 32
 
 -- the cell spells this further part

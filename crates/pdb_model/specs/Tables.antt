@@ -1,6 +1,6 @@
 -- The value tables of a column as a picture, in which no layout occurs: what each slot is, and the free lists.
 use Rattle.std.specs.Prelude.{◌≡◌, ◌<◌, ◌≤◌, ◌+◌, ◌-◌, ◌*◌, ◌/◌, ◌==◌, ◌^◌, ℕ, zero, suc, List, [], ◌∷◌, ◌++◌, length, take, drop, slice_index, slice_get, position, if◌then◌else◌, Option, Some, None, min}
-use Rattle.pdb_model.specs.Tiers.{in_head, in_part, most_in_value, parts_tier, tier_of}
+use Rattle.pdb_model.specs.Tiers.{in_head, in_part, most_stored, parts_tier, tier_of}
 use Rattle.pdb_model.specs.Slots.{IsCounted, IsFree, IsHeadOfParts, IsPart, IsWhole}
 use Rattle.pdb_model.specs.Heads.{Ends, ends_at, ends_bytes}
 
@@ -223,13 +223,6 @@ with_count (Part head place bytes next) n = Part head place bytes next
 with_count Free n = Free
 with_count Loose n = Loose
 with_count Outside n = Outside
-
--- a count of 2^64 - 1 never changes
-abbrev pub one_more : ℕ → ℕ
-one_more n = if n == 2 ^ 64 - 1 then n else n + 1
-
-abbrev pub one_less : ℕ → ℕ
-one_less n = if n == 2 ^ 64 - 1 then n else n - 1
 
 abbrev pub recounted : Table → ℕ → ℕ → Table
 recounted t i n = record t { slot = with_slot t.slot i (with_count (t.slot i) n) }

@@ -1,10 +1,8 @@
 -- Value tables: sixteen tiers of slots, each of one size, and the tier to which a value goes.
-use Rattle.std.specs.Prelude.{◌≡◌, ℕ, zero, suc, ◌+◌, nat_le, List, [], ◌∷◌, slice_index, if◌then◌else◌}
+use Rattle.pdb_cells.specs.Sizes.{slot_sizes}
+use Rattle.std.specs.Prelude.{ℕ, ◌+◌, nat_le, List, [], ◌∷◌, slice_index, take, if◌then◌else◌}
 
--- the size of a slot of each tier, in bytes
-abbrev pub slot_sizes : List ℕ
-slot_sizes = 64 ∷ (96 ∷ (128 ∷ (160 ∷ (192 ∷ (256 ∷ (320 ∷ (512 ∷ (768 ∷ (1024 ∷ (2048 ∷ (4096 ∷ (8192 ∷ (16384 ∷ (32768 ∷ (4096 ∷ [])))))))))))))))
-
+-- the size of a slot of a tier, in bytes
 abbrev pub slot_size : ℕ → ℕ
 slot_size tier = slice_index slot_sizes tier
 
@@ -24,8 +22,8 @@ abbrev pub in_part : ℕ
 in_part = 4088
 
 -- at most so many bytes in a value
-abbrev pub most_in_value : ℕ
-most_in_value = 8388608
+abbrev pub most_stored : ℕ
+most_stored = 8388608
 
 -- the first of these slot sizes that holds so many bytes, counted from a tier on, else the tier behind them
 abbrev pub tier_from : ℕ → List ℕ → ℕ → ℕ
@@ -34,4 +32,4 @@ tier_from tier (size ∷ sizes) len = if nat_le (before_value + len) size then t
 
 -- the tier of a value of so many bytes: the lowest of those for whole values that holds it, else that of values in parts
 abbrev pub tier_of : ℕ → ℕ
-tier_of len = tier_from 0 (64 ∷ (96 ∷ (128 ∷ (160 ∷ (192 ∷ (256 ∷ (320 ∷ (512 ∷ (768 ∷ (1024 ∷ (2048 ∷ (4096 ∷ (8192 ∷ (16384 ∷ (32768 ∷ []))))))))))))))) len
+tier_of len = tier_from 0 (take 15 slot_sizes) len

@@ -3,3 +3,5 @@ pub mod Limits
 pub mod Nibbles
 pub mod Node
 pub mod Trie
+pub mod Nodes
+pub mod Fetches
