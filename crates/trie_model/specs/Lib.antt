@@ -5,3 +5,4 @@ pub mod Node
 pub mod Trie
 pub mod Nodes
 pub mod Fetches
+pub mod Example

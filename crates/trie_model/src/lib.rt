@@ -7,6 +7,8 @@
 //! changed is left to the layers above.
 #![tactic(auto)]
 
+mod fetching;
 mod laws;
 
+pub use fetching::{known_changes, known_fetches, known_stored_nodes};
 pub use laws::{changes_apply_in_order, equal_states_have_one_trie, known_nodes, limits_last};
