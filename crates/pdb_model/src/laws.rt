@@ -1,6 +1,9 @@
-ghost use Rattle.std.specs.Prelude.{◌≡◌, ◌∷◌, [], ◌++◌, replicate};
+ghost use Rattle.std.specs.Prelude.{◌≡◌, ◌∷◌, [], ◌++◌, ◌-◌, ◌^◌, ℕ, List, length, replicate, Some, None};
 ghost use Rattle.std.specs.Int.{w64, to_le_bytes};
-ghost use Rattle.pdb_model.specs.Chunks.{chunk_number, entry_of};
+ghost use Rattle.sdb_base.specs.Content.{Counted};
+ghost use Rattle.pdb_model.specs.Chunks.{chunk_bytes, chunk_number, entry_of, with_entry};
+ghost use Rattle.pdb_model.specs.Columns.{Column, IsColumn, IsUnder};
+ghost use Rattle.pdb_model.specs.Tables.{Free, Outside, Table, Whole, bytes_of_part, freed_all, part_count, placed, room_of, slots_of, slots_taken, taken_many};
 ghost use Rattle.pdb_model.specs.Tiers.{slot_size, tier_of};
 
 /// A value goes to the lowest tier that holds it with the 44 bytes before it: on both sides of each edge, computed.
@@ -21,4 +24,34 @@ pub fn known_entries()
     ensures chunk { (chunk_number 4 (0x12 ∷ (0x34 ∷ (0x56 ∷ (0x78 ∷ replicate 28 0)))) ≡ 1)
         × (chunk_number 0 (0x12 ∷ (0x34 ∷ (0x56 ∷ (0x78 ∷ replicate 28 0)))) ≡ 0)
         × (chunk_number 30 (0x12 ∷ (0x34 ∷ (0x56 ∷ (0x78 ∷ replicate 28 0)))) ≡ 0x48d159e) }
+{}
+
+/// How many further parts a value has, on both sides of each edge, and how long its last one is, computed.
+pub fn known_parts()
+    ensures counts { (part_count 4044 ≡ 0) × (part_count 4045 ≡ 1) × (part_count 8132 ≡ 1) × (part_count 8133 ≡ 2)
+        × (part_count 32725 ≡ 8) × (part_count 4194304 ≡ 1026) × (part_count 8388608 ≡ 2052) }
+    ensures slots { (slots_of 32724 ≡ 1) × (slots_of 32725 ≡ 9) }
+    ensures last { (length (bytes_of_part (replicate 32725 0) 6) ≡ 4088) × (length (bytes_of_part (replicate 32725 0) 7) ≡ 65) }
+{}
+
+/// Slots are taken from the front of the free list and then past the end, and freed ones come to its front, computed.
+pub fn known_free_lists()
+    ensures taken { slots_taken 4 (record { slot = λ i. Free; free = 5 ∷ (2 ∷ []); end = 7 }) ≡ 5 ∷ (2 ∷ (8 ∷ (9 ∷ []))) }
+    ensures left { ((taken_many 1 (record { slot = λ i. Free; free = 5 ∷ (2 ∷ []); end = 7 })).free ≡ 2 ∷ [])
+        × ((taken_many 3 (record { slot = λ i. Free; free = 5 ∷ (2 ∷ []); end = 7 })).end ≡ 8) }
+    ensures freed { (freed_all (record { slot = λ i. Free; free = 5 ∷ []; end = 7 }) (1 ∷ (4 ∷ (3 ∷ [])))).free ≡ 3 ∷ (4 ∷ (1 ∷ (5 ∷ []))) }
+    ensures room { (room_of (record { slot = λ i. Free; free = 5 ∷ (2 ∷ []); end = 2 ^ 32 - 2 }) ≡ 3)
+        × (room_of (record { slot = λ i. Free; free = []; end = 2 ^ 32 - 1 }) ≡ 0) }
+    ensures placed { (placed (record { slot = λ i. Outside; free = []; end = 0 }) (9 ∷ []) 1 (7 ∷ [])).slot 1 ≡ Whole (9 ∷ []) 1 (7 ∷ []) }
+{}
+
+/// A chunk is its entries one after the other, low byte first, and a new entry goes to the first empty place, computed.
+pub fn known_chunks()
+    ensures spelled { chunk_bytes (0x0102030405060708 ∷ (0xff ∷ [])) ≡ 8 ∷ (7 ∷ (6 ∷ (5 ∷ (4 ∷ (3 ∷ (2 ∷ (1 ∷ (0xff ∷ (0 ∷ (0 ∷ (0 ∷ (0 ∷ (0 ∷ (0 ∷ (0 ∷ []))))))))))))))) }
+    ensures put { (with_entry (3 ∷ (0 ∷ (4 ∷ (0 ∷ [])))) 9 ≡ Some (3 ∷ (9 ∷ (4 ∷ (0 ∷ []))))) × (with_entry (3 ∷ (4 ∷ [])) 9 ≡ None) }
+{}
+
+/// What a column holds is one map: it has one count and one value under a key.
+pub fn content_is_one_map()
+    ensures { (c : Column) (key : List ℕ) (one other : Counted) → IsColumn c → IsUnder c key one → IsUnder c key other → one ≡ other }
 {}
