@@ -9,9 +9,11 @@
 #![tactic(auto)]
 
 mod address;
+mod gate_slot;
 mod laws;
 
 pub use address::Address;
+pub use gate_slot::GateSlot;
 pub use laws::{
     content_is_one_map, known_chunks, known_entries, known_free_lists, known_parts, known_tiers,
 };
