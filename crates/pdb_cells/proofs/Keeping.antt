@@ -1,5 +1,5 @@
 -- What a draft keeps of its puts, before and after one more.
-use Rattle.std.proofs.Common.{◌≡◌, ℕ, ◌<◌, List, [], ◌∷◌, ◌++◌, length, get_or, Option, Some, None, All, refl, sym, ap, ap₂, ◌∙◌, subst, cond}
+use Rattle.std.proofs.Common.{◌≡◌, ℕ, List, [], ◌∷◌, ◌++◌, length, get_or, Some, None, sym, ap, ap₂, ◌∙◌, subst, cond}
 use Rattle.std.proofs.Math.ListN.{set}
 use Rattle.std.specs.BTreeMap.{BTreeMap, Updates, get}
 use Rattle.std.proofs.lemmas.List.Elements.{All-get_or, All-push, All-set}

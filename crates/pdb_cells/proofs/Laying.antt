@@ -1,7 +1,7 @@
 -- What puts make of a content, cell by cell.
 use Rattle.std.proofs.Common.{◌≡◌, ℕ, Bool, true, false, cond, List, [], ◌∷◌, ◌++◌, Option, Some, None, refl, sym, ap, ◌∙◌}
 use mathlib.Core.Path.{fun_ext}
-use Rattle.std.specs.Option.{option_map, option_or, unwrap_or}
+use Rattle.std.specs.Option.{option_or, unwrap_or}
 use Rattle.std.proofs.lemmas.Option.{same_Some}
 use Rattle.pdb_cells.specs.Content.{Content, put_cell}
 use Rattle.pdb_cells.specs.Puts.{NoCellTwice, drafted, laid, last_put, puts_after, same_cell}
@@ -62,6 +62,9 @@ read_put puts name bytes (Some below) cells e seen =
 pub read_below : (puts : List Put) (name : CellName) (below : Option Content) (cells : Content) → None ≡ last_put puts name
     → drafted puts below ≡ Some cells → (c : Content) × (below ≡ Some c) × (c name.file name.index ≡ cells name.file name.index)
 read_below puts name None cells e seen = cc
-read_below puts name (Some below) cells e seen =
-    (below, refl, ap (λ o. unwrap_or o (below name.file name.index)) e ∙ sym (laid-last puts below name)
-      ∙ ap (λ (c : Content). c name.file name.index) (same_Some (laid puts below) cells seen))
+read_below puts name (Some below) cells e seen = (
+  below,
+  refl,
+  ap (λ o. unwrap_or o (below name.file name.index)) e ∙ sym (laid-last puts below name)
+      ∙ ap (λ (c : Content). c name.file name.index) (same_Some (laid puts below) cells seen),
+)

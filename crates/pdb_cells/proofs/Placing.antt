@@ -1,12 +1,12 @@
 -- Where puts are found, and what one more put changes.
-use Rattle.std.proofs.Common.{◌≡◌, ℕ, ◌+◌, ◌<◌, ◌⊎◌, inl, inr, ⊎_elim, suc, Bool, true, false, cond, List, [], ◌∷◌, ◌++◌, length, get_or, Option, Some, None, IsSome, map, refl, sym, ap, subst, ◌∙◌, arith}
+use Rattle.std.proofs.Common.{◌≡◌, ℕ, ◌<◌, ◌⊎◌, inl, inr, ⊎_elim, suc, Bool, true, false, cond, List, [], ◌∷◌, ◌++◌, length, get_or, Option, Some, None, IsSome, map, refl, sym, ap, subst, ◌∙◌, arith}
 use Rattle.std.proofs.Math.ListN.{set}
 use Rattle.std.specs.Option.{option_map, option_or}
 use Rattle.pdb_cells.specs.Puts.{NoCellTwice, last_put, puts_after, same_cell}
 use Rattle.pdb_cells.specs.inner.Places.{place_of}
 use Rattle.pdb_cells.specs.declared.cell_name.CellName.{CellName}
 use Rattle.pdb_cells.specs.declared.puts.Put.{Put}
-use Rattle.pdb_cells.proofs.Names.{same_cell-true, same_cell-refl, same_cell-flip}
+use Rattle.pdb_cells.proofs.Names.{same_cell-true, same_cell-flip}
 
 true_or_false : (t : Bool) → (t ≡ true) ⊎ (t ≡ false)
 true_or_false true = inl refl
@@ -84,7 +84,7 @@ placed [] name i once e = cc
 placed (p ∷ ps) name i once e = ⊎_elim
     (λ here. let first : 0 ≡ i = cc (place_here p ps name here, e) in subst (IsAt (p ∷ ps) name) first (at_first p ps name once.0 here))
     (λ other. let next = suc_some (place_of ps name) i (sym (place_other p ps name other) ∙ e) in
-      subst (IsAt (p ∷ ps) name) (sym next.2) (at_next p ps name next.0 other (placed ps name next.0 once.1 next.1)))
+    subst (IsAt (p ∷ ps) name) (sym next.2) (at_next p ps name next.0 other (placed ps name next.0 once.1 next.1)))
     (true_or_false (same_cell p.name name))
 
 -- one more put of a cell that has a place is put there
@@ -92,9 +92,9 @@ pub after_placed : (puts : List Put) (p : Put) (i : ℕ) → place_of puts p.nam
 after_placed [] p i e = cc
 after_placed (q ∷ qs) p i e = ⊎_elim
     (λ here. let first : 0 ≡ i = cc (place_here q qs p.name here, e) in
-      after_here q qs p here ∙ ap (λ i. set (q ∷ qs) i p) first)
+    after_here q qs p here ∙ ap (λ i. set (q ∷ qs) i p) first)
     (λ other. let next = suc_some (place_of qs p.name) i (sym (place_other q qs p.name other) ∙ e) in
-      after_other q qs p other ∙ ap (λ rest. q ∷ rest) (after_placed qs p next.0 next.1) ∙ ap (λ i. set (q ∷ qs) i p) (sym next.2))
+    after_other q qs p other ∙ ap (λ rest. q ∷ rest) (after_placed qs p next.0 next.1) ∙ ap (λ i. set (q ∷ qs) i p) (sym next.2))
     (true_or_false (same_cell q.name p.name))
 
 -- and one of another cell comes last
@@ -110,10 +110,10 @@ pub places_kept : (puts : List Put) (p : Put) (i : ℕ) (name : CellName) → pl
 places_kept [] p i name e = cc
 places_kept (q ∷ qs) p i name e = ⊎_elim
     (λ here. ap (λ puts. place_of puts name) (after_here q qs p here)
-      ∙ ap (λ (n : CellName). cond (same_cell n name) (Some 0) (option_map suc (place_of qs name))) (sym (same_cell-true q.name p.name here)))
+    ∙ ap (λ (n : CellName). cond (same_cell n name) (Some 0) (option_map suc (place_of qs name))) (sym (same_cell-true q.name p.name here)))
     (λ other. let next = suc_some (place_of qs p.name) i (sym (place_other q qs p.name other) ∙ e) in
-      ap (λ puts. place_of puts name) (after_other q qs p other)
-      ∙ ap (λ o. cond (same_cell q.name name) (Some 0) (option_map suc o)) (places_kept qs p next.0 name next.1))
+    ap (λ puts. place_of puts name) (after_other q qs p other)
+    ∙ ap (λ o. cond (same_cell q.name name) (Some 0) (option_map suc o)) (places_kept qs p next.0 name next.1))
     (true_or_false (same_cell q.name p.name))
 
 place_next : (s t : Bool) (n : ℕ) (o : Option ℕ) → (s ≡ true → t ≡ false)
@@ -135,7 +135,7 @@ places_new [] p name e = refl
 places_new (q ∷ qs) p name e = ⊎_elim
     (λ here. absurd (never_none (last_put qs p.name) q.bytes (sym (last_here q qs p.name here) ∙ e)))
     (λ other. ap (λ o. cond (same_cell q.name name) (Some 0) (option_map suc o)) (places_new qs p name (sym (last_other q qs p.name other) ∙ e))
-      ∙ place_next (same_cell q.name name) (same_cell p.name name) (length qs) (place_of qs name) (apart_from q.name p.name name other))
+    ∙ place_next (same_cell q.name name) (same_cell p.name name) (length qs) (place_of qs name) (apart_from q.name p.name name other))
     (true_or_false (same_cell q.name p.name))
 
 -- The last puts after one more.
@@ -153,13 +153,13 @@ pub last_after : (puts : List Put) (p : Put) (name : CellName) → NoCellTwice p
 last_after [] p name once = refl
 last_after (q ∷ qs) p name once = ⊎_elim
     (λ here. let cell = same_cell-true q.name p.name here in
-      ap (λ puts. last_put puts name) (after_here q qs p here)
-      ∙ last_replaced (same_cell p.name name) (last_put qs name) p.bytes q.bytes
-        (λ same. ap (last_put qs) (sym (same_cell-true p.name name same) ∙ sym cell) ∙ once.0)
-      ∙ ap (λ (n : CellName). cond (same_cell p.name name) (Some p.bytes) (option_or (last_put qs name) (cond (same_cell n name) (Some q.bytes) None))) (sym cell))
+    ap (λ puts. last_put puts name) (after_here q qs p here)
+    ∙ last_replaced (same_cell p.name name) (last_put qs name) p.bytes q.bytes
+    (λ same. ap (last_put qs) (sym (same_cell-true p.name name same) ∙ sym cell) ∙ once.0)
+    ∙ ap (λ (n : CellName). cond (same_cell p.name name) (Some p.bytes) (option_or (last_put qs name) (cond (same_cell n name) (Some q.bytes) None))) (sym cell))
     (λ other. ap (λ puts. last_put puts name) (after_other q qs p other)
-      ∙ ap (λ o. option_or o (cond (same_cell q.name name) (Some q.bytes) None)) (last_after qs p name once.1)
-      ∙ last_later (same_cell p.name name) (last_put qs name) (cond (same_cell q.name name) (Some q.bytes) None) p.bytes)
+    ∙ ap (λ o. option_or o (cond (same_cell q.name name) (Some q.bytes) None)) (last_after qs p name once.1)
+    ∙ last_later (same_cell p.name name) (last_put qs name) (cond (same_cell q.name name) (Some q.bytes) None) p.bytes)
     (true_or_false (same_cell q.name p.name))
 
 -- no cell is put twice
@@ -168,7 +168,7 @@ once_after [] p once = (refl, tt)
 once_after (q ∷ qs) p once = ⊎_elim
     (λ here. subst NoCellTwice (sym (after_here q qs p here)) (ap (last_put qs) (sym (same_cell-true q.name p.name here)) ∙ once.0, once.1))
     (λ other. subst NoCellTwice (sym (after_other q qs p other))
-      ((last_after qs p q.name once.1 ∙ ap (λ t. cond t (Some p.bytes) (last_put qs q.name)) (same_cell-flip q.name p.name other) ∙ once.0), once_after qs p once.1))
+    ((last_after qs p q.name once.1 ∙ ap (λ t. cond t (Some p.bytes) (last_put qs q.name)) (same_cell-flip q.name p.name other) ∙ once.0), once_after qs p once.1))
     (true_or_false (same_cell q.name p.name))
 
 -- the cells stay in their order where the cell was put before
@@ -176,7 +176,7 @@ pub names_kept : (puts : List Put) (p : Put) → IsSome (last_put puts p.name) �
 names_kept [] p e = cc
 names_kept (q ∷ qs) p e = ⊎_elim
     (λ here. ap (map (λ (q : Put). q.name)) (after_here q qs p here)
-      ∙ ap (λ (n : CellName). n ∷ map (λ (q : Put). q.name) qs) (sym (same_cell-true q.name p.name here)))
+    ∙ ap (λ (n : CellName). n ∷ map (λ (q : Put). q.name) qs) (sym (same_cell-true q.name p.name here)))
     (λ other. ap (map (λ (q : Put). q.name)) (after_other q qs p other)
-      ∙ ap (λ names. q.name ∷ names) (names_kept qs p (subst IsSome (last_other q qs p.name other) e)))
+    ∙ ap (λ names. q.name ∷ names) (names_kept qs p (subst IsSome (last_other q qs p.name other) e)))
     (true_or_false (same_cell q.name p.name))

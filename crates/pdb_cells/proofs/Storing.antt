@@ -1,11 +1,10 @@
 -- What a map of cells holds after one more is set.
-use Rattle.std.proofs.Common.{◌≡◌, ℕ, ◌⊎◌, ⊎_elim, Bool, true, false, cond, List, length, Option, Some, None, Result, Ok, Err, OnOk, OnErr, All, ◌∷◌, [], replicate, refl, sym, ap, ap₂, ◌∙◌}
+use Rattle.std.proofs.Common.{◌≡◌, ℕ, Bool, true, false, cond, List, length, Option, Some, None, Result, Ok, Err, OnOk, OnErr, replicate, refl, sym, ap, ◌∙◌}
 use mathlib.Core.Path.{fun_ext}
 use Rattle.std.specs.BTreeMap.{BTreeMap, IsUnchanged, Updates, get, is_at}
 use Rattle.std.specs.Map.{lookup}
 use Rattle.std.specs.Option.{unwrap_or}
 use Rattle.std.proofs.lemmas.Option.{same_Some}
-use Rattle.std.proofs.lemmas.List.Elements.{All-head, All-tail}
 use Rattle.pdb_cells.specs.Content.{put_cell}
 use Rattle.pdb_cells.specs.Memory.{held, zeros_of}
 use Rattle.pdb_cells.specs.Names.{name_cmp}
@@ -40,7 +39,7 @@ pub sized_set : (a b : BTreeMap CellName (List ℕ)) (name : CellName) (bytes : 
     → size_of name.file ≡ Some (length bytes) → AreSized a → AreSized b
 sized_set a b name bytes after sized before q c e =
     sized_at (same_cell name q) name q bytes c (get name_cmp a q) (same_cell-true name q) sized (before q c)
-      (sym (found_after a b name (Some bytes) after q) ∙ e)
+    (sym (found_after a b name (Some bytes) after q) ∙ e)
 
 size_kept : {A E : Type 0} (r : Result A E) (a b : BTreeMap CellName (List ℕ)) (name q : CellName) (bytes c : List ℕ)
     → OnOk r (Updates name_cmp a b name (Some bytes)) → OnErr r (IsUnchanged a b) → size_of name.file ≡ Some (length bytes) → AreSized a

@@ -1,5 +1,5 @@
 -- What a contract sees of cells in memory.
-use Rattle.std.specs.Prelude.{ℕ, List, ◌==◌, if◌then◌else◌, replicate}
+use Rattle.std.specs.Prelude.{ℕ, List, replicate}
 use Rattle.std.specs.Option.{unwrap_or}
 use Rattle.std.specs.BTreeMap.{BTreeMap, get}
 use Rattle.pdb_cells.specs.Content.{Content}

@@ -28,7 +28,7 @@ pub use cell_bytes::CellBytes;
 pub use cell_name::{CellName, HEAD_FILE, size};
 pub use cells::{CellFault, Cells};
 pub use draft::{Draft, Over};
-pub use laws::{cells_have_their_sizes, puts_are_laid_in_order, a_put_replaces_the_earlier_one};
+pub use laws::{a_put_replaces_the_earlier_one, cells_have_their_sizes, puts_are_laid_in_order};
 pub use memory::MapCells;
 pub use put_set::PutSet;
 pub use puts::{Put, Puts};

@@ -1,6 +1,6 @@
 -- What is observable of a draft stays while that of the cells below and the puts stay.
 use Rattle.std.specs.Prelude.{◌≡◌, List, Option, Some, None, refl}
-use Rattle.std.proofs.Common.{◌∙◌, ap, sym}
+use Rattle.std.proofs.Common.{◌∙◌, ap}
 use Rattle.pdb_cells.specs.Content.{Content}
 use Rattle.pdb_cells.specs.Puts.{drafted}
 use Rattle.pdb_cells.specs.declared.puts.Put.{Put}

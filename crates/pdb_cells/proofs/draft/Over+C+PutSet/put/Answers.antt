@@ -8,6 +8,6 @@ pub returns-clause-cells : goal.returns-clause-cells
 returns-clause-cells g c cells seen =
     let below = g.C.Cells.seen c.args.self.now.under.now in
     on_ok_weaker c.put.result
-      (λ e. ap (λ puts. drafted puts below) e
-        ∙ drafted-after c.args.self.now.puts (record { name = c.args.name; bytes = c.args.bytes.now }) below cells c.put.ensures.once seen)
-      c.put.ensures.ok
+    (λ e. ap (λ puts. drafted puts below) e
+    ∙ drafted-after c.args.self.now.puts (record { name = c.args.name; bytes = c.args.bytes.now }) below cells c.put.ensures.once seen)
+    c.put.ensures.ok

@@ -11,6 +11,6 @@ copy_from_slice-requires c =
     ∙ ap length (sym c.as_slice.ensures)
 
 pub returns-in-None-clause-bytes : goal.returns-in-None-clause-bytes
-returns-in-None-clause-bytes c cells seen = 
+returns-in-None-clause-bytes c cells seen =
     c.fill.ensures.after (λ y e. e) ∙ absent_zeros c.args.self.now.cells c.args.name (length c.args.into.now) c.in-None.ensures.value c.requires.sized
     ∙ ap (λ (f : Content). f c.args.name.file c.args.name.index) (same_Some (cells_of c.args.self.now) cells seen)
