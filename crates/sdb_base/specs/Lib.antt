@@ -1,2 +1,4 @@
 pub mod Nibbles
 pub mod Content
+pub mod Keeping
+pub mod Pipeline

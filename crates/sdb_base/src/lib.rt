@@ -12,9 +12,11 @@ mod block;
 mod bytes;
 mod change;
 mod items;
+mod keeper;
 mod laws;
 mod nibbles;
 mod node;
+mod numbers;
 mod op;
 mod pair;
 
@@ -22,9 +24,11 @@ pub use block::{Block, BlockId, Prepared};
 pub use bytes::{ByteString, Bytes};
 pub use change::{Change, Changes};
 pub use items::{Items, Sequence, TryCopy, Typed};
+pub use keeper::{Keeper, Stages};
 pub use laws::{known_contents, operations_apply_in_order};
 pub use nibbles::{NibbleString, Nibbles};
 pub use node::{HashList, Node, NodeHash, NodeList};
+pub use numbers::{Counter, Grown, KeepFault, KeeperCall, Logged, Numbers, StageAnswer};
 pub use op::{Op, Ops};
 pub use pair::{Pair, Pairs};
 
