@@ -1,11 +1,16 @@
+pub mod Alike
 pub mod Bitmaps
 pub mod Bits
 pub mod Bodies
 pub mod Children
 pub mod Headers
+pub mod KeyBytes
 pub mod Layouts
 pub mod Lengths
 pub mod Lent
+pub mod Levels
+pub mod Longer
+pub mod LongerNodes
 pub mod Partial
 pub mod Places
 pub mod ReadBitmap
@@ -18,6 +23,7 @@ pub mod ReadPartial
 pub mod ReadSteps
 pub mod ReadString
 pub mod ReadWhole
+pub mod Refusals
 pub mod Spellings
 pub mod Taken
 pub mod Unpacked

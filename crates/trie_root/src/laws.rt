@@ -1,9 +1,10 @@
-ghost use Rattle.std.specs.Prelude.{◌≡◌, ℕ, ◌≤◌, List, ◌∷◌, ◌++◌, [], IsTrue, drop, length, map, Some, None, ◌==◌, if◌then◌else◌};
+ghost use Rattle.std.specs.Prelude.{◌≡◌, ℕ, ◌≤◌, List, ◌∷◌, ◌++◌, [], All, IsTrue, drop, length, map, Some, None, ◌==◌, if◌then◌else◌};
 ghost use Rattle.std.specs.Ordering.{is_lt, nat_cmp};
 ghost use Rattle.std.specs.Cmp.Lexicographic.{slice_cmp};
 ghost use Rattle.std.specs.FinMap.{is_sorted};
 ghost use Rattle.sdb_base.specs.Nibbles.{nibbles_of};
 ghost use Rattle.trie_model.specs.Trie.{Suffix, below, common, common_prefix, levels_of, node_over, value_here};
+ghost use Rattle.trie_root.specs.Suffixes.{BeginsWith, IsWithout};
 
 /// A node over some suffixes has at most as many levels as the longest has nibbles, and one: a larger bound gives the
 /// same node.
@@ -29,10 +30,11 @@ pub fn prefixes_follow_one_another()
     ensures { (p q : List ℕ) (suffixes : List Suffix) → below (p ++ q) suffixes ≡ below q (below p suffixes) }
 {}
 
-/// The suffixes of a sorted list that go on with a nibble stand in a row.
+/// The suffixes of a sorted list that begin with a nibble stand in a row: none before it and none after it does.
 pub fn a_nibble_is_a_row()
     ensures { (nibble : ℕ) (suffixes : List Suffix) → IsTrue (is_sorted (slice_cmp nat_cmp) suffixes)
         → (front : List Suffix) × (row : List Suffix) × (back : List Suffix) × (suffixes ≡ front ++ (row ++ back))
+        × All (IsWithout nibble) front × All (BeginsWith nibble) row × All (IsWithout nibble) back
         × (below (nibble ∷ []) suffixes ≡ map (λ (s : Suffix). (drop 1 s.0, s.1)) row) }
 {}
 
