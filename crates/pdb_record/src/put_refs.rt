@@ -1,4 +1,4 @@
-ghost use Rattle.std.specs.Prelude.{◌≡◌, ◌≤◌, ◌+◌, ◌++◌, ◌∷◌, [], ℕ, List, All, IfSome, IsSomeAnd, MatchOption, drop, length, take};
+ghost use Rattle.std.specs.Prelude.{◌≡◌, ◌≤◌, ◌<◌, ◌^◌, ◌+◌, ◌++◌, ◌∷◌, [], ℕ, List, All, IfSome, IsSomeAnd, MatchOption, drop, length, take};
 ghost use Rattle.std.specs.Int.{w16, w64, to_le_bytes};
 ghost use Rattle.pdb_cells.specs.Puts.{IsWholeCell};
 ghost use Rattle.pdb_cells.specs.declared.Put.{Put};
@@ -22,7 +22,8 @@ pub struct PutRef<'a> {
 
 /// The file and the index of a put, by its first 10 bytes.
 pub fn put_name(bytes: &[u8; 10]) -> CellName
-    ensures { to_le_bytes w16 result.file ++ to_le_bytes w64 result.index ≡ bytes.now }
+    ensures bytes { to_le_bytes w16 result.file ++ to_le_bytes w64 result.index ≡ bytes.now }
+    ensures narrow { (result.file < 2 ^ 16) × (result.index < 2 ^ 64) }
 {
     let [f0, f1, i0, i1, i2, i3, i4, i5, i6, i7] = *bytes;
     CellName {
@@ -42,7 +43,9 @@ pub(crate) fn first_put(bytes: &[u8]) -> Option<PutRef<'_>>
         return None;
     }
     let name = put_name(&front(bytes));
-    let size = size(name.file)?;
+    let Some(size) = size(name.file) else {
+        return None;
+    };
     if name.index >= END_OF_INDEXES || size > bytes.len() - BEFORE_CELL {
         return None;
     }
