@@ -1,5 +1,5 @@
 -- The parts of an entry.
-use Rattle.std.proofs.Common.{◌≡◌, ◌≢◌, ◌+◌, ◌-◌, ◌*◌, ◌/◌, ◌%◌, ◌<◌, ◌≤◌, ◌^◌, ℕ, List, refl, sym, ap, ◌∙◌, arith}
+use Rattle.std.proofs.Common.{◌≡◌, ◌≢◌, ◌+◌, ◌*◌, ◌/◌, ◌%◌, ◌<◌, ◌≤◌, ◌^◌, ℕ, List, refl, arith}
 use Rattle.pdb_model.specs.Chunks.{CarriesKey, bits_at, entry_of, entry_slot, entry_tier}
 
 bits_of : (b t s e : ℕ) → t < 2 ^ 8 → s < 2 ^ 32 → e ≡ b * 2 ^ 40 + (t * 2 ^ 32 + s) → e / 2 ^ 40 ≡ b

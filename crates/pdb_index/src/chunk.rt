@@ -46,6 +46,7 @@ pub fn put(c: &mut Chunk, entry: u64) -> Result<(), ChunkFull>
     ensures ok { OnOk result (with_entry c.old.items entry ≡ Some c.new.items) }
     ensures full { IsErr result ↔ All (λ e. e ≢ 0) c.old.items }
     ensures err { OnErr result (c.new.items ≡ c.old.items) }
+    ensures places { array_vec_len c.new ≡ 64 }
 {
     match first_empty(c) {
         Some(place) => {

@@ -2,16 +2,10 @@ use super::*;
 use pdb_model::Address;
 use std::test::*;
 
-// a key that begins with these bytes and is zeros after them
-fn key_of(front: [u8; 4]) -> [u8; 32] {
-    let mut key = [0u8; 32];
-    key[..4].copy_from_slice(&front);
-    key
-}
-
 #[test]
 fn entries_have_the_bits_of_their_keys(rt: HostRuntime) -> Result<(), Fail> {
-    let key = key_of([0x12, 0x34, 0x56, 0x78]);
+    let mut key = [0u8; 32];
+    key[..4].copy_from_slice(&[0x12, 0x34, 0x56, 0x78]);
     let at = Address { tier: 2, slot: 5 };
     for (base, want) in [
         (0, 0x1234_5602_0000_0005),
@@ -28,7 +22,9 @@ fn entries_have_the_bits_of_their_keys(rt: HostRuntime) -> Result<(), Fail> {
         ([0x1a, 0x34, 0x56, 0x78], false),
         ([0x12, 0x34, 0x56, 0x88], false),
     ] {
-        assert_eq!(rt; matches(4, &key_of(front), 0x2345_6702_0000_0005), want);
+        let mut other = [0u8; 32];
+        other[..4].copy_from_slice(front.as_slice());
+        assert_eq!(rt; matches(4, &other, 0x2345_6702_0000_0005), want);
     }
     for (bits, want) in [(0, 0), (1, 0), (4, 1), (16, 0x1234), (30, 0x48d_159e)] {
         assert_eq!(rt; chunk_of(bits, &key), want);
@@ -45,15 +41,17 @@ fn a_chunk_fills_from_the_front(rt: HostRuntime) -> Result<(), Fail> {
         &bytes[..9],
         [5, 0, 0, 0, 2, 0x67, 0x45, 0x23, 0].as_slice()
     );
-    for number in 1..64u64 {
-        put(&mut chunk, number)?;
-    }
-    assert_eq!(rt; put(&mut chunk, 64), Err(ChunkFull));
+    let mut chunk = read_chunk(&[1; 512]);
+    assert_eq!(rt; put(&mut chunk, 9), Err(ChunkFull));
     clear(&mut chunk, 63);
     clear(&mut chunk, 7);
-    put(&mut chunk, 0x0102_0304_0506_0708)?;
-    let read = read_chunk(&chunk_bytes(&chunk));
-    assert_eq!(rt; read[7], 0x0102_0304_0506_0708);
-    assert_eq!(rt; (read[6], read[8], read[62], read[63]), (6, 8, 62, 0));
+    put(&mut chunk, 0x0203_0405_0607_0809)?;
+    put(&mut chunk, 10)?;
+    assert_eq!(rt; put(&mut chunk, 11), Err(ChunkFull));
+    let bytes = chunk_bytes(&chunk);
+    let wanted = [1, 1, 9, 8, 7, 6, 5, 4, 3, 2, 1, 1];
+    assert_eq!(rt; &bytes[54..66], wanted.as_slice());
+    let wanted = [1, 1, 10, 0, 0, 0, 0, 0, 0, 0];
+    assert_eq!(rt; &bytes[502..], wanted.as_slice());
     Ok(())
 }
