@@ -25,7 +25,7 @@ pub trait Cells {
     // how many cells but head cells were read from where they are kept
     ghost read_count: { Self → ℕ };
 
-    // the first are the second before some reads
+    // cells before and after calls that only read
     ghost same: { Self → Self → Type 0 };
 
     /// Fills `into` with the bytes of a cell. `into` has the cell's size, and the index is below 2^32. `Disk`

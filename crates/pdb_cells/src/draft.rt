@@ -118,7 +118,7 @@ impl<'a, C: Cells> Cells for Over<'a, C, PutSet> {
 
     ghost on = { λ d e f p q. (q.0 ∙ p.0, C.on d.under.now e.under.now f.under.now p.1 q.1, q.2 ∙ p.2) };
 
-    ghost stays = { λ d e cells p told. stays_drafted d.puts e.puts (C.seen d.under.now) (C.seen e.under.now) cells p.2 (λ below. C.stays d.under.now e.under.now below p.1) told };
+    ghost stays = { λ d e cells p seen. stays_drafted d.puts e.puts (C.seen d.under.now) (C.seen e.under.now) cells p.2 (λ below. C.stays d.under.now e.under.now below p.1) seen };
 
     ghost rises = { λ d e p. C.rises d.under.now e.under.now p.1 };
 }

@@ -1,16 +1,16 @@
 //! The cells in which a database keeps everything but its log: their names and sizes, the trait by which they are
 //! read, and drafts of what is to be written.
 //!
-//! A contract sees cells as a function from a file and an index to bytes, where the object tells them. Reading a
-//! cell writes nothing: what is observable stays, and the counts of faults and of reads never fall. A draft lays
-//! puts over cells that it only reads: a cell reads as its last put, else as the cell below, and the puts come out
-//! each cell once, in the order of first puts. A draft is cells again, so that what reads cells can read it. What
-//! the bytes of a cell mean, and when a put reaches the disk, is left to the layers above.
+//! A contract sees cells as a function from a file and an index to bytes, where they are observable. Reading a cell
+//! writes nothing: what is observable stays, and the counts of faults and of reads never fall. A draft keeps puts over
+//! cells that it only reads: a cell reads as its last put, else as the cell below, and the puts come out each cell
+//! once, in the order of first puts. A draft is cells again, so that what reads cells can read it. What the bytes of a
+//! cell mean, and when a put reaches the disk, is left to the layers above.
 //!
 //! ```text
 //! let mut draft = Draft::new(alloc, &mut cells);
 //! let outcome = change(&mut draft);
-//! let puts = draft.finish();       // on errors too: a draft that is dropped says nothing of the cells below
+//! let puts = draft.finish();       // on errors too: of the cells below a dropped draft nothing is known
 //! outcome?;
 //! ```
 #![tactic(auto)]

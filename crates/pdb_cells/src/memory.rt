@@ -126,7 +126,7 @@ impl Cells for MapCells {
 
     ghost on = { λ l m n p q. (q.0 ∙ p.0, Prim.search (rules, p, q), Prim.search (rules, p, q)) };
 
-    ghost stays = { λ m n cells p told. ap Some p.0 ∙ told };
+    ghost stays = { λ m n cells p seen. ap Some p.0 ∙ seen };
 
     ghost rises = { λ m n p. (p.1, p.2) };
 }
