@@ -16,10 +16,10 @@ pub record IsEntry (e : List ℕ × List ℕ) : Type 0 where
   pub key : All (λ b. b < 256) e.0
   pub value : All (λ b. b < 256) e.1
 
--- a suffix that goes on with the nibble
-abbrev pub GoesOnWith : ℕ → Suffix → Type 0
-GoesOnWith nibble s = (rest : List ℕ) × (s.0 ≡ nibble ∷ rest)
+-- a suffix that begins with the nibble
+abbrev pub HasFirst : ℕ → Suffix → Type 0
+HasFirst nibble s = (rest : List ℕ) × (s.0 ≡ nibble ∷ rest)
 
 -- a suffix that doesn't
-abbrev pub GoesOnOtherwise : ℕ → Suffix → Type 0
-GoesOnOtherwise nibble s = GoesOnWith nibble s → ⊥
+abbrev pub IsWithout : ℕ → Suffix → Type 0
+IsWithout nibble s = HasFirst nibble s → ⊥
