@@ -53,7 +53,8 @@ pub fn counter_counts_bytes()
         → final_state nn m ≡ compress (state_after nn m n) (drop (128 * n) m) (128 * (n + 1)) true }
     // Another last block is padded with zeros, which the counter leaves out.
     ensures short_last { (nn n k : ℕ) (m : List ℕ) → 0 < k → k < 128 → length m ≡ 128 * n + k
-        → final_state nn m ≡ compress (state_after nn m n) (drop (128 * n) m ++ replicate (128 - k) 0) (128 * n + k) true }
+        → final_state nn m ≡ compress (state_after nn m n)
+        (drop (128 * n) m ++ replicate (128 - k) 0) (128 * n + k) true }
 {}
 
 /// Digests that the definition gives, by computing: BLAKE2b-256 of nothing, of one byte 0 and of the

@@ -2,7 +2,7 @@
 use Rattle.std.proofs.Common.{◌≡◌, ℕ, true, eqb, List, [], ◌∷◌, Some, refl, ap, ◌∙◌, eq-eqb}
 use Rattle.trie_model.specs.Trie.{Suffix, after_prefix, below, node_of_all, value_here}
 use Rattle.trie_codec.specs.Parts.{leaf_with, node_with}
-use Rattle.trie_root.specs.Groups.{children_over}
+use Rattle.trie_root.specs.inner.Groups.{children_over}
 use Rattle.trie_root.proofs.OneLevel.{one_level}
 
 after_itself : (ns : List ℕ) → after_prefix ns ns ≡ Some []
