@@ -1,5 +1,14 @@
 -- Counts of faults, by which a caller knows that a fault came from outside.
-use Rattle.std.specs.Prelude.{◌≡◌, ◌⊎◌, ◌<◌, ◌-◌, ◌^◌, ℕ}
+use Rattle.std.specs.Prelude.{◌≡◌, ◌⊎◌, ◌<◌, ◌+◌, ◌-◌, ◌^◌, ℕ, Bool, true, false, min}
+
+-- a count after one fault more; at the end of its type it stays there
+abbrev pub one_more : ℕ → ℕ
+one_more n = min (n + 1) (2 ^ 64 - 1)
+
+-- A call counts its fault, and nothing else: the count after it is one more where it failed, and else as it was.
+abbrev pub CountsFault : Bool → ℕ → ℕ → Type 0
+CountsFault false before after = after ≡ before
+CountsFault true before after = after ≡ one_more before
 
 -- between the two counts there was a fault: the count rose, or stands at the end of its type
 abbrev pub Rose : ℕ → ℕ → Type 0
