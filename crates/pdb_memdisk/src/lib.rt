@@ -1,13 +1,8 @@
-// A library with one function.
+//! A disk in memory that keeps a record of its calls, and fails where it is told to.
 #![tactic(auto)]
 
-ghost use Rattle.std.specs.Prelude.{◌≡◌};
-ghost use Rattle.pdb_memdisk.specs.Echo.{echo_of};
+mod contents;
+mod memory;
+mod record;
 
-// The `ensures` clause is the contract: what `echo` returns is `echo_of` of its argument, a definition
-// in `specs/Echo.antt`, which a caller's clause can cite too.
-pub fn echo(x: usize) -> usize
-    ensures { result ≡ echo_of x }
-{
-    x
-}
+pub use memory::MemDisk;
