@@ -6,11 +6,10 @@ use Rattle.std.proofs.lemmas.List.{append-nil}
 use Rattle.std.proofs.lemmas.List.Elements.{All-head, All-tail, All-push, All-weaker, filter-append}
 use Rattle.std.proofs.lemmas.Bool.Decides.{nat_tests}
 use Rattle.pdb_disk.specs.Files.{Files, Image, Elapses, done, reads_of}
-use Rattle.pdb_disk.specs.Files.{Step as step}
-use Rattle.pdb_memdisk.specs.Record.{acted, played, replayed, until, applied}
+use Rattle.pdb_memdisk.specs.Record.{step_of, acted, played, replayed, until, applied}
 use Rattle.pdb_memdisk.specs.declared.record.Call.{Call}
 use Rattle.pdb_memdisk.specs.declared.record.Action.{Action}
-use Rattle.pdb_memdisk.specs.declared.record.Action.TheVariants.{Write, Cut, Sync}
+use Rattle.pdb_memdisk.specs.declared.record.Action.TheVariants.{Changes, Syncs}
 
 abbrev pub Stamped : ℕ → List Call → Type 0
 Stamped t cs = All (λ c. c.stamp ≤ t) cs
@@ -57,15 +56,13 @@ same_time fs t cs low = record { one = omega (arith, low); later = omega arith; 
 
 -- what is read after a call that was done
 pub reads_done : (fs : Files) (file : ℕ) (a : Action) → reads_of (played fs file a true) ≡ applied (reads_of fs) file a
-reads_done fs file (Write at bytes) = fun_ext (λ j. elim (j == file) as (λ b. (if b then acted (fs j) (Write at bytes) true else fs j).read ≡ (if b then done (fs j).read (step.Write at bytes.items) else (fs j).read)) [ true ↦ refl | false ↦ refl ])
-reads_done fs file Cut = fun_ext (λ j. elim (j == file) as (λ b. (if b then acted (fs j) Cut true else fs j).read ≡ (if b then done (fs j).read step.Cut else (fs j).read)) [ true ↦ refl | false ↦ refl ])
-reads_done fs file Sync = fun_ext (λ j. elim (j == file) as (λ b. (if b then acted (fs j) Sync true else fs j).read ≡ (fs j).read) [ true ↦ refl | false ↦ refl ])
+reads_done fs file (Changes c) = fun_ext (λ j. elim (j == file) as (λ b. (if b then acted (fs j) (Changes c) true else fs j).read ≡ (if b then done (fs j).read (step_of c) else (fs j).read)) [ true ↦ refl | false ↦ refl ])
+reads_done fs file Syncs = fun_ext (λ j. elim (j == file) as (λ b. (if b then acted (fs j) Syncs true else fs j).read ≡ (fs j).read) [ true ↦ refl | false ↦ refl ])
 
 -- and after one that failed
 pub reads_failed : (fs : Files) (file : ℕ) (a : Action) → reads_of (played fs file a false) ≡ reads_of fs
-reads_failed fs file (Write at bytes) = fun_ext (λ j. elim (j == file) as (λ b. (if b then acted (fs j) (Write at bytes) false else fs j).read ≡ (fs j).read) [ true ↦ refl | false ↦ refl ])
-reads_failed fs file Cut = fun_ext (λ j. elim (j == file) as (λ b. (if b then acted (fs j) Cut false else fs j).read ≡ (fs j).read) [ true ↦ refl | false ↦ refl ])
-reads_failed fs file Sync = fun_ext (λ j. elim (j == file) as (λ b. (if b then acted (fs j) Sync false else fs j).read ≡ (fs j).read) [ true ↦ refl | false ↦ refl ])
+reads_failed fs file (Changes c) = fun_ext (λ j. elim (j == file) as (λ b. (if b then acted (fs j) (Changes c) false else fs j).read ≡ (fs j).read) [ true ↦ refl | false ↦ refl ])
+reads_failed fs file Syncs = fun_ext (λ j. elim (j == file) as (λ b. (if b then acted (fs j) Syncs false else fs j).read ≡ (fs j).read) [ true ↦ refl | false ↦ refl ])
 
 pub stamped_later : (t : ℕ) (cs : List Call) → Stamped t cs → Stamped (t + 1) cs
 stamped_later t cs h = All-weaker (λ (x : Call). x.stamp ≤ t) (λ (x : Call). x.stamp ≤ t + 1) (λ x le. omega (arith, le)) cs h
@@ -80,3 +77,12 @@ tied_more fs x y cs c e is = is ∙ pick c.done refl ∙ ap reads_of (sym (repla
     pick : (b : Bool) → c.done ≡ b → (if b then applied x c.file c.action else x) ≡ reads_of (played (replayed fs cs) c.file c.action c.done)
     pick true d = rw d (ap (λ (z : Image). applied z c.file c.action) e ∙ sym (reads_done (replayed fs cs) c.file c.action))
     pick false d = rw d (e ∙ sym (reads_failed (replayed fs cs) c.file c.action))
+
+-- the same of a list that is known to be those calls
+pub plays_more : (fs : Files) (t : ℕ) (cs items : List Call) (c : Call) (ok : Bool) → items ≡ cs ++ c ∷ [] → c.done ≡ ok → Stamped t cs → c.stamp ≡ t + 1 → replayed fs (until (t + 1) items) ≡ played (replayed fs (until t cs)) c.file c.action ok
+plays_more fs t cs items c ok e is h s =
+    ap (λ (xs : List Call). replayed fs (until (t + 1) xs)) e ∙ past_more fs t cs c h s
+    ∙ ap (λ (b : Bool). played (replayed fs (until t cs)) c.file c.action b) is
+
+pub plays_same : (fs : Files) (t : ℕ) (cs items : List Call) → items ≡ cs → Stamped t cs → replayed fs (until (t + 1) items) ≡ replayed fs (until t cs)
+plays_same fs t cs items e h = ap (λ (xs : List Call). replayed fs (until (t + 1) xs)) e ∙ past_same fs t cs h

@@ -1,5 +1,5 @@
 -- What a contract sees of a disk in memory.
-use Rattle.std.specs.Prelude.{◌≡◌, ◌≤◌, ◌⊎◌, ◌-◌, ◌^◌, ℕ, List, []}
+use Rattle.std.specs.Prelude.{◌≡◌, ◌≤◌, ◌⊎◌, ◌-◌, ◌^◌, ℕ, List, [], IsTrue}
 use Rattle.std.specs.List.{Contains}
 use Rattle.pdb_disk.specs.Files.{Files, reads_of}
 use Rattle.pdb_memdisk.specs.Contents.{image_of, all_settled}
@@ -41,6 +41,10 @@ fuse_of d = d.fuse
 abbrev pub IsToFail : MemDisk → Type 0
 IsToFail d = Contains (to_fail d) (tried_by d) ⊎ (fuse_of d ≤ tried_by d)
 
+-- memory was found for every call so far
+abbrev pub IsComplete : MemDisk → Type 0
+IsComplete d = IsTrue d.complete
+
 -- no call was made yet, none is to fail, and all files are synced
 pub record IsFresh (d : MemDisk) : Type 0 where
   pub clock : clock_of d ≡ 0
@@ -49,12 +53,22 @@ pub record IsFresh (d : MemDisk) : Type 0 where
   pub tried : tried_by d ≡ 0
   pub steady : to_fail d ≡ []
   pub unfused : fuse_of d ≡ 2 ^ 64 - 1
+  pub complete : IsComplete d
   pub synced : now_of d ≡ all_settled (reads_of (now_of d))
 
 -- what is to fail is as before
 pub record SamePlan (old new : MemDisk) : Type 0 where
   pub to_fail : new.failing.items ≡ old.failing.items
   pub fuse : new.fuse ≡ old.fuse
+
+-- clock, counts and files at every moment are as before
+pub record SameState (old new : MemDisk) : Type 0 where
+  pub past : past_of new ≡ past_of old
+  pub clock : clock_of new ≡ clock_of old
+  pub reads : reads_by new ≡ reads_by old
+  pub faults : failed_by new ≡ failed_by old
+  pub tried : tried_by new ≡ tried_by old
+  pub complete : IsComplete old → IsComplete new
 
 -- every file reads as before
 abbrev pub SameReads : Files → Files → Type 0

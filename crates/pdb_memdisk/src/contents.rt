@@ -2,11 +2,11 @@ ghost use Rattle.std.specs.Prelude.{◌≡◌, ◌≤◌, ◌<◌, ◌+◌, ◌^
 ghost use Rattle.pdb_disk.specs.Files.{StandsAt, done};
 ghost use Rattle.pdb_disk.specs.Files.{Step as step};
 ghost use Rattle.pdb_memdisk.specs.Contents.{content_of, image_of, changed};
-ghost use Rattle.pdb_memdisk.specs.Record.{applied, IsShort};
+ghost use Rattle.pdb_memdisk.specs.Record.{step_of};
 
-use crate::record::Action;
+use crate::record::Change;
 use sdb_io::OutOfMemory;
-use std::alloc::Global;
+use std::alloc::{AllocError, Global};
 use std::marker::Model;
 
 /// The bytes of one file up to the last one written; past them there are zeros.
@@ -56,7 +56,6 @@ impl FileBytes {
 
     /// Writes the bytes from `at` on. An `Err` changes nothing.
     pub fn write(&mut self, at: u64, bytes: &[u8]) -> Result<(), OutOfMemory>
-        requires { at + length bytes.now ≤ 2 ^ 63 }
         ensures ok { OnOk result (content_of self.new ≡ done (content_of self.old) (step.Write at bytes.now)) }
         ensures err { OnErr result (self.new ≡ self.old) }
     {
@@ -64,7 +63,8 @@ impl FileBytes {
             return Ok(());
         }
         let start = at as usize;
-        self.extend(start + bytes.len())?;
+        let end = start.checked_add(bytes.len()).ok_or(AllocError)?;
+        self.extend(end)?;
         overwrite(self.bytes.as_mut_slice(), start, bytes);
         Ok(())
     }
@@ -162,7 +162,6 @@ impl FileSet {
         at: u64,
         bytes: &[u8],
     ) -> Result<(), OutOfMemory>
-        requires { at + length bytes.now ≤ 2 ^ 63 }
         ensures ok { OnOk result (image_of self.new ≡ changed (image_of self.old) file (step.Write at bytes.now)) }
         ensures err { OnErr result (image_of self.new ≡ image_of self.old) }
     {
@@ -179,19 +178,17 @@ impl FileSet {
         }
     }
 
-    /// Does a write or a cut; a sync leaves all files. An `Err` changes no file.
-    pub fn apply(&mut self, alloc: Global, file: u16, action: &Action) -> Result<(), OutOfMemory>
-        requires { IsShort action.now }
-        ensures ok { OnOk result (image_of self.new ≡ applied (image_of self.old) file action.now) }
+    /// Makes a change of a file. An `Err` changes no file.
+    pub fn apply(&mut self, alloc: Global, file: u16, change: &Change) -> Result<(), OutOfMemory>
+        ensures ok { OnOk result (image_of self.new ≡ changed (image_of self.old) file (step_of change.now)) }
         ensures err { OnErr result (image_of self.new ≡ image_of self.old) }
     {
-        match action {
-            Action::Write(at, bytes) => self.write(alloc, file, *at, bytes.as_slice()),
-            Action::Cut => {
+        match change {
+            Change::Write(at, bytes) => self.write(alloc, file, *at, bytes.as_slice()),
+            Change::Cut => {
                 self.cut(file);
                 Ok(())
             }
-            Action::Sync => Ok(()),
         }
     }
 }

@@ -4,10 +4,11 @@ ghost use Rattle.sdb_io.specs.Faults.{CountsFault, one_more};
 ghost use Rattle.pdb_disk.specs.Files.{Elapses, Begins, MayBegin, Settles, StandsAt, done, reads_of};
 ghost use Rattle.pdb_disk.specs.Files.{Step as step};
 ghost use Rattle.pdb_memdisk.specs.Contents.{image_of, all_settled};
-ghost use Rattle.pdb_memdisk.specs.Record.{applied, replayed, IsShort, Does};
+ghost use Rattle.pdb_memdisk.specs.Record.{applied};
+ghost use Rattle.pdb_memdisk.specs.Record.{replayed, Does};
 
 use crate::contents::FileSet;
-use crate::record::{Action, Call};
+use crate::record::{Action, Call, Change};
 use pdb_disk::{Disk, DiskFault};
 use sdb_io::OutOfMemory;
 use std::alloc::Global;
@@ -25,8 +26,25 @@ pub struct MemDisk {
     tried: u64,
     failing: Vec<u64>,
     fuse: u64,
+    complete: bool,
     ghost stamped: { All (λ c. c.stamp ≤ clock) calls.items },
     ghost tied: { image_of files ≡ reads_of (replayed (all_settled (image_of base)) calls.items) },
+}
+
+// Does an action on a file; a sync leaves all files. An `Err` changes no file.
+fn carry_out(
+    alloc: Global,
+    files: &mut FileSet,
+    file: u16,
+    action: &Action,
+) -> Result<(), OutOfMemory>
+    ensures ok { OnOk result (image_of files.new ≡ applied (image_of files.old) file action.now) }
+    ensures err { OnErr result (image_of files.new ≡ image_of files.old) }
+{
+    match action {
+        Action::Changes(change) => files.apply(alloc, file, change),
+        Action::Syncs => Ok(()),
+    }
 }
 
 // Does a call, if it is to be done, and keeps it. An `Err` changes no file.
@@ -36,7 +54,6 @@ fn keep(
     calls: &mut Vec<Call>,
     call: Call,
 ) -> Result<(), OutOfMemory>
-    requires { IsShort call.action }
     ensures ok { OnOk result (calls.new.items ≡ calls.old.items ++ call ∷ []) }
     ensures done { OnOk result (image_of files.new
         ≡ (if call.done then applied (image_of files.old) call.file call.action else image_of files.old)) }
@@ -44,14 +61,14 @@ fn keep(
 {
     calls.reserve(1)?;
     if call.done {
-        files.apply(alloc, call.file, &call.action)?;
+        carry_out(alloc, files, call.file, &call.action)?;
     }
     calls.push_reserved(call);
     Ok(())
 }
 
 impl MemDisk {
-    ghost use Rattle.pdb_memdisk.specs.Memory.{clock_of, reads_by, failed_by, past_of, now_of, tried_by, to_fail, fuse_of, IsToFail, IsFresh, SamePlan};
+    ghost use Rattle.pdb_memdisk.specs.Memory.{clock_of, reads_by, failed_by, past_of, now_of, tried_by, to_fail, fuse_of, IsToFail, IsComplete, IsFresh, SamePlan, SameState};
 
     /// A disk whose files are empty.
     pub fn new(alloc: Global) -> MemDisk
@@ -69,6 +86,7 @@ impl MemDisk {
             tried: 0,
             failing: Vec::new(alloc),
             fuse: u64::MAX,
+            complete: true,
         }
     }
 
@@ -77,7 +95,8 @@ impl MemDisk {
     pub fn fail_at(&mut self, call: u64) -> Result<(), OutOfMemory>
         ensures ok { OnOk result (to_fail self.new ≡ to_fail self.old ++ call ∷ []) }
         ensures err { OnErr result (to_fail self.new ≡ to_fail self.old) }
-        ensures same { (now_of self.new ≡ now_of self.old) }
+        ensures fused { fuse_of self.new ≡ fuse_of self.old }
+        ensures same { SameState self.old self.new }
     {
         self.failing.push(call)?;
         Ok(())
@@ -86,9 +105,18 @@ impl MemDisk {
     /// Makes every call fail after the first `k`, counted in the same way.
     pub fn fuse(&mut self, k: u64)
         ensures set { fuse_of self.new ≡ k }
-        ensures same { (to_fail self.new ≡ to_fail self.old) }
+        ensures listed { to_fail self.new ≡ to_fail self.old }
+        ensures same { SameState self.old self.new }
     {
         self.fuse = k;
+    }
+
+    /// Whether memory was found for every call so far. A write or a cut for which none was found isn't begun, so that it
+    /// stands in no image.
+    pub fn is_complete(&self) -> bool
+        ensures { IsTrue result ↔ IsComplete self.now }
+    {
+        self.complete
     }
 
     // Whether the next call is to fail.
@@ -110,12 +138,15 @@ impl MemDisk {
 
     // Makes a write, a cut or a sync, for which memory was found or not, and answers whether it was done.
     fn perform(&mut self, file: u16, action: Result<Action, OutOfMemory>) -> bool
-        requires { IfOk action IsShort }
         ensures time { Elapses (clock_of self.old) (clock_of self.new) (past_of self.old) (past_of self.new) }
         ensures last { IsTrue result → clock_of self.old < 2 ^ 64 - 1 }
         ensures done { IsTrue result → Does file action true (now_of self.old) (now_of self.new) }
         ensures failed { IsFalse result → Does file action false (now_of self.old) (now_of self.new)
             ⊎ (now_of self.new ≡ now_of self.old) }
+        ensures pending { IsFalse result → IsComplete self.new → clock_of self.old < 2 ^ 64 - 1
+            → Does file action false (now_of self.old) (now_of self.new) }
+        ensures complete { IsComplete self.new → IsComplete self.old }
+        ensures found { IsTrue result → IsComplete self.old → IsComplete self.new }
         ensures planned { IsToFail self.old → IsFalse result }
         ensures next { tried_by self.new ≡ one_more (tried_by self.old) }
         ensures plan { SamePlan self.old self.new }
@@ -130,6 +161,7 @@ impl MemDisk {
         }
         self.clock += 1;
         let Ok(action) = action else {
+            self.complete = false;
             self.faults = self.faults.saturating_add(1);
             return false;
         };
@@ -140,6 +172,7 @@ impl MemDisk {
             action,
         };
         if keep(self.alloc, &mut self.files, &mut self.calls, call).is_err() {
+            self.complete = false;
             self.faults = self.faults.saturating_add(1);
             return false;
         }
@@ -152,7 +185,7 @@ impl MemDisk {
 }
 
 impl Disk for MemDisk {
-    ghost use Rattle.pdb_memdisk.specs.Memory.{clock_of, reads_by, failed_by, past_of, now_of, tried_by, IsToFail, SamePlan, SameReads};
+    ghost use Rattle.pdb_memdisk.specs.Memory.{clock_of, reads_by, failed_by, past_of, now_of, tried_by, IsToFail, IsComplete, SamePlan, SameReads};
     ghost use Rattle.pdb_memdisk.specs.Laws.{settled_image, replayed_image};
     ghost use Rattle.pdb_memdisk.specs.Record.{until};
 
@@ -181,6 +214,7 @@ impl Disk for MemDisk {
         ensures one_read { reads_by self.new ≤ reads_by self.old + 1 }
         ensures exact { reads_by self.new ≡ one_more (reads_by self.old) }
         ensures fails { IsErr result ↔ IsToFail self.old }
+        ensures complete { IsComplete self.new ↔ IsComplete self.old }
         ensures next { tried_by self.new ≡ one_more (tried_by self.old) }
         ensures plan { SamePlan self.old self.new }
     {
@@ -208,6 +242,10 @@ impl Disk for MemDisk {
         ensures reads { reads_by self.new ≡ reads_by self.old }
         ensures fails { IsToFail self.old → IsErr result }
         ensures unmoved { OnErr result (SameReads (now_of self.old) (now_of self.new)) }
+        ensures pending { IsComplete self.new → clock_of self.old < 2 ^ 64 - 1
+            → OnErr result (Begins file (step.Write at bytes.now) (now_of self.old) (now_of self.new)) }
+        ensures complete { IsComplete self.new → IsComplete self.old }
+        ensures found { OnOk result (IsComplete self.old → IsComplete self.new) }
         ensures next { tried_by self.new ≡ one_more (tried_by self.old) }
         ensures plan { SamePlan self.old self.new }
     {
@@ -231,10 +269,14 @@ impl Disk for MemDisk {
         ensures reads { reads_by self.new ≡ reads_by self.old }
         ensures fails { IsToFail self.old → IsErr result }
         ensures unmoved { OnErr result (SameReads (now_of self.old) (now_of self.new)) }
+        ensures pending { IsComplete self.new → clock_of self.old < 2 ^ 64 - 1
+            → OnErr result (Begins file step.Cut (now_of self.old) (now_of self.new)) }
+        ensures complete { IsComplete self.new → IsComplete self.old }
+        ensures found { OnOk result (IsComplete self.old → IsComplete self.new) }
         ensures next { tried_by self.new ≡ one_more (tried_by self.old) }
         ensures plan { SamePlan self.old self.new }
     {
-        if self.perform(file, Ok(Action::Cut)) {
+        if self.perform(file, Ok(Action::Changes(Change::Cut))) {
             Ok(())
         } else {
             Err(DiskFault::Cut)
@@ -251,10 +293,12 @@ impl Disk for MemDisk {
         ensures counted { CountsFault (is_err result) (failed_by self.old) (failed_by self.new) }
         ensures reads { reads_by self.new ≡ reads_by self.old }
         ensures fails { IsToFail self.old → IsErr result }
+        ensures complete { IsComplete self.new → IsComplete self.old }
+        ensures found { OnOk result (IsComplete self.old → IsComplete self.new) }
         ensures next { tried_by self.new ≡ one_more (tried_by self.old) }
         ensures plan { SamePlan self.old self.new }
     {
-        if self.perform(file, Ok(Action::Sync)) {
+        if self.perform(file, Ok(Action::Syncs)) {
             Ok(())
         } else {
             Err(DiskFault::Sync)
