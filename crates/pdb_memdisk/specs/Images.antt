@@ -1,10 +1,12 @@
 -- Which images of a disk in memory are listed.
-use Rattle.std.specs.Prelude.{ℕ, ◌/◌, ◌==◌, ◌&&◌, Bool, true, false, Option, Some, None, List, [], ◌∷◌, ◌++◌, if◌then◌else◌, map, length, take}
+use Rattle.std.specs.Prelude.{ℕ, ◌/◌, ◌==◌, ◌&&◌, Bool, true, false, Some, None, List, [], ◌∷◌, ◌++◌, if◌then◌else◌, map, length, take}
 use Rattle.std.specs.List.{list_any, filter_map}
-use Rattle.pdb_disk.specs.Files.{Image, Step}
+use Rattle.pdb_disk.specs.Files.{Files, Image, Step}
 use Rattle.pdb_disk.specs.Files.{Step as step}
-use Rattle.pdb_memdisk.specs.Contents.{changed}
-use Rattle.pdb_memdisk.specs.Record.{step_of}
+use Rattle.pdb_memdisk.specs.Contents.{image_of, changed}
+use Rattle.pdb_memdisk.specs.Record.{step_of, applied}
+use denote.Bor.{Bor}
+use Rattle.pdb_memdisk.specs.declared.record.Change.{Change}
 use Rattle.pdb_memdisk.specs.declared.record.Call.{Call}
 use Rattle.pdb_memdisk.specs.declared.record.Action.{Action}
 use Rattle.pdb_memdisk.specs.declared.record.Action.TheVariants.{Changes, Syncs}
@@ -19,7 +21,7 @@ is_sync (Changes c) = false
 
 -- the call synced this file
 abbrev pub syncs : ℕ → Call → Bool
-syncs file c = (c.file == file) && (c.done && is_sync c.action)
+syncs file c = (file == c.file) && (c.done && is_sync c.action)
 
 -- the step of a call, unless it was a sync
 abbrev pub placed : ℕ → Action → List Placed
@@ -33,7 +35,7 @@ pending (c ∷ cs) = (if list_any (syncs c.file) cs then [] else placed c.file c
 
 -- the steps on one file
 abbrev pub steps_on : ℕ → List Placed → List Step
-steps_on j ps = filter_map (λ p. if p.0 == j then Some p.1 else None) ps
+steps_on j ps = filter_map (λ p. if j == p.0 then Some p.1 else None) ps
 
 -- all files after these steps
 abbrev pub laid : Image → List Placed → Image
@@ -63,3 +65,19 @@ all_but_one (p ∷ ps) = ps ∷ map (λ qs. p ∷ qs) (all_but_one ps)
 -- the images that are listed, of files that were kept and the steps since
 abbrev pub listed : Image → List Placed → List Image
 listed x ps = map (laid x) (first_n ps) ++ (map (laid x) (first_n_and_half ps) ++ map (laid x) (all_but_one ps))
+
+-- what all files kept
+abbrev pub keeps_of : Files → Image
+keeps_of fs = λ j. (fs j).kept
+
+-- all files after a call, if it was done and one of the later calls synced its file
+abbrev pub kept_step : Image → Call → List Call → Image
+kept_step x c later = if list_any (syncs c.file) later && c.done then applied x c.file c.action else x
+
+-- changes with their files, as steps
+abbrev pub placed_all : List (ℕ × Bor Change) → List Placed
+placed_all cs = map (λ c. (c.0, step_of c.1.now)) cs
+
+-- what sets of files read as
+abbrev pub seen_in : List (List (List ℕ)) → List Image
+seen_in sets = map image_of sets

@@ -1,9 +1,10 @@
 -- What a contract sees of a disk in memory.
 use Rattle.std.specs.Prelude.{◌≡◌, ◌≤◌, ◌⊎◌, ◌-◌, ◌^◌, ℕ, List, [], IsTrue}
 use Rattle.std.specs.List.{Contains}
-use Rattle.pdb_disk.specs.Files.{Files, reads_of}
+use Rattle.pdb_disk.specs.Files.{Files, Image, reads_of}
 use Rattle.pdb_memdisk.specs.Contents.{image_of, all_settled}
 use Rattle.pdb_memdisk.specs.Record.{replayed, until}
+use Rattle.pdb_memdisk.specs.Images.{Placed, pending}
 use Rattle.pdb_memdisk.specs.declared.memory.MemDisk.{MemDisk}
 
 -- how many writes, cuts and syncs there were
@@ -24,6 +25,14 @@ past_of d t = replayed (all_settled (image_of d.base)) (until t d.calls.items)
 
 abbrev pub now_of : MemDisk → Files
 now_of d = past_of d (clock_of d)
+
+-- what every file reads as
+abbrev pub image_now : MemDisk → Image
+image_now d = reads_of (now_of d)
+
+-- the steps since the last sync of their file, in order of calls
+abbrev pub pending_of : MemDisk → List Placed
+pending_of d = pending d.calls.items
 
 -- how many calls there were that can fail: reads, writes, cuts and syncs
 abbrev pub tried_by : MemDisk → ℕ
@@ -54,7 +63,7 @@ pub record IsFresh (d : MemDisk) : Type 0 where
   pub steady : to_fail d ≡ []
   pub unfused : fuse_of d ≡ 2 ^ 64 - 1
   pub complete : IsComplete d
-  pub synced : now_of d ≡ all_settled (reads_of (now_of d))
+  pub synced : now_of d ≡ all_settled (image_now d)
 
 -- what is to fail is as before
 pub record SamePlan (old new : MemDisk) : Type 0 where

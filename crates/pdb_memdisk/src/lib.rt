@@ -2,7 +2,12 @@
 #![tactic(auto)]
 
 mod contents;
+mod disks;
+mod images;
+mod laws;
 mod memory;
 mod record;
 
+pub use disks::Disks;
+pub use laws::pending_steps_are_since_the_last_sync;
 pub use memory::MemDisk;

@@ -1,13 +1,16 @@
-ghost use Rattle.std.specs.Prelude.{◌≡◌, ◌≤◌, ◌<◌, ◌+◌, ◌-◌, ◌^◌, ◌⊎◌, ◌↔◌, ◌++◌, ◌∷◌, [], ℕ, length, true, false, not, is_err, if◌then◌else◌, Ok, IfOk, IfErr, OnOk, OnErr, IsErr, IsTrue, IsFalse};
+ghost use Rattle.std.specs.Prelude.{◌≡◌, ◌≤◌, ◌<◌, ◌+◌, ◌-◌, ◌^◌, ◌⊎◌, ◌↔◌, ◌++◌, ◌∷◌, [], ℕ, length, map, true, false, not, is_err, if◌then◌else◌, Ok, IfOk, IfErr, OnOk, OnErr, IsErr, IsTrue, IsFalse};
 ghost use Rattle.std.specs.List.{All, Contains};
 ghost use Rattle.sdb_io.specs.Faults.{CountsFault, one_more};
-ghost use Rattle.pdb_disk.specs.Files.{Elapses, Begins, MayBegin, Settles, StandsAt, done, reads_of};
+ghost use Rattle.pdb_disk.specs.Files.{Elapses, Begins, MayBegin, Settles, StandsAt, IsImage, done, reads_of};
+ghost use Rattle.pdb_memdisk.specs.Images.{keeps_of, listed};
 ghost use Rattle.pdb_disk.specs.Files.{Step as step};
 ghost use Rattle.pdb_memdisk.specs.Contents.{image_of, all_settled};
 ghost use Rattle.pdb_memdisk.specs.Record.{applied};
 ghost use Rattle.pdb_memdisk.specs.Record.{replayed, Does};
 
 use crate::contents::FileSet;
+use crate::disks::Disks;
+use crate::images::{kept_files, listed_sets, pending_changes};
 use crate::record::{Action, Call, Change};
 use pdb_disk::{Disk, DiskFault};
 use sdb_io::OutOfMemory;
@@ -68,7 +71,7 @@ fn keep(
 }
 
 impl MemDisk {
-    ghost use Rattle.pdb_memdisk.specs.Memory.{clock_of, reads_by, failed_by, past_of, now_of, tried_by, to_fail, fuse_of, IsToFail, IsComplete, IsFresh, SamePlan, SameState};
+    ghost use Rattle.pdb_memdisk.specs.Memory.{clock_of, reads_by, failed_by, past_of, now_of, tried_by, to_fail, fuse_of, IsToFail, IsComplete, IsFresh, SamePlan, SameState, image_now, pending_of};
 
     /// A disk whose files are empty.
     pub fn new(alloc: Global) -> MemDisk
@@ -117,6 +120,41 @@ impl MemDisk {
         ensures { IsTrue result ↔ IsComplete self.now }
     {
         self.complete
+    }
+
+    // A disk of these files, all of them synced.
+    pub(crate) fn holding(alloc: Global, files: FileSet) -> Result<MemDisk, OutOfMemory>
+        ensures fresh { IfOk result IsFresh }
+        ensures seen { IfOk result (λ d. image_now d ≡ image_of files) }
+    {
+        Ok(MemDisk {
+            alloc,
+            base: files.copy(alloc)?,
+            files,
+            calls: Vec::new(alloc),
+            clock: 0,
+            reads: 0,
+            faults: 0,
+            tried: 0,
+            failing: Vec::new(alloc),
+            fuse: u64::MAX,
+            complete: true,
+        })
+    }
+
+    /// Images of the disk as it now is, each as a disk of its own: what a crash might leave of the writes and cuts that
+    /// were begun since the last sync of their file, in order of calls. For each n, there is one with the first n of them
+    /// done; where the next one is a write, one that has the first half of its bytes besides, rounded down; and one with
+    /// all done but the n-th.
+    pub fn images(&self, alloc: Global) -> Result<Disks, OutOfMemory>
+        ensures fresh { IfOk result (All IsFresh) }
+        ensures members { IfOk result (All (λ d. IsImage (now_of self.now) (image_now d))) }
+        ensures listed { IfOk result (λ ds. map image_now ds ≡ listed (keeps_of (now_of self.now)) (pending_of self.now)) }
+    {
+        let kept = kept_files(alloc, &self.base, &self.calls)?;
+        let changes = pending_changes(alloc, &self.calls)?;
+        let sets = listed_sets(alloc, &kept, &changes)?;
+        Disks::holding(alloc, sets)
     }
 
     // Whether the next call is to fail.

@@ -45,6 +45,6 @@ impl Call {
     pub fn syncs(&self, file: u16) -> bool
         ensures { result ≡ syncs file self.now }
     {
-        self.file == file && self.done && matches!(&self.action, Action::Syncs)
+        file == self.file && self.done && matches!(&self.action, Action::Syncs)
     }
 }

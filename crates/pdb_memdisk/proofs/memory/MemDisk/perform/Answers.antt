@@ -1,5 +1,5 @@
 use Rattle.std.proofs.Common.{rules, ◌≡◌, ◌+◌, true, false, not, List, [], ◌∷◌, ◌++◌, if◌then◌else◌, inl, inr, refl, sym, ◌∙◌, ap, subst}
-use Rattle.pdb_disk.specs.Files.{Files, reads_of}
+use Rattle.pdb_disk.specs.Files.{reads_of}
 use Rattle.pdb_memdisk.specs.Contents.{image_of, all_settled}
 use Rattle.pdb_memdisk.specs.Record.{applied, replayed}
 use Rattle.pdb_memdisk.specs.declared.record.Call.{Call}
