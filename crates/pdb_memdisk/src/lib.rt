@@ -11,3 +11,6 @@ mod record;
 pub use disks::Disks;
 pub use laws::pending_steps_are_since_the_last_sync;
 pub use memory::MemDisk;
+
+#[cfg(test)]
+mod tests;
