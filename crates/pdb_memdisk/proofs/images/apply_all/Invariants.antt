@@ -1,0 +1,7 @@
+use Rattle.std.proofs.Common.{◌≡◌, drop}
+use Rattle.pdb_memdisk.specs.Contents.{image_of}
+use Rattle.pdb_memdisk.specs.Images.{laid, placed_all}
+use Rattle.pdb_memdisk.proofs.images.apply_all.Given as goal
+
+abbrev pub invariant-loop-change : goal.invariant-loop-change
+invariant-loop-change l = laid (image_of l.files) (placed_all (drop l.change-index l.changes)) ≡ laid (image_of l.fn.files) (placed_all l.changes)
