@@ -40,14 +40,14 @@ line_text line = join_with_byte 32 (line_words line)
 abbrev pub IsId : BlockId → Type 0
 IsId id = (length id.0 ≡ 32) × IsBytes id.0
 
-abbrev pub IsShort : ℕ → List ℕ → Type 0
-IsShort most bytes = (length bytes ≤ most) × IsBytes bytes
+abbrev pub HasAtMost : ℕ → List ℕ → Type 0
+HasAtMost most bytes = (length bytes ≤ most) × IsBytes bytes
 
 -- a change of the main trie, its key and value not too long
 pub record IsChange (change : Change) : Type 0 where
   pub trie : change.trie ≡ []
-  pub key : IsShort most_in_key change.key
-  pub value : IfSome change.value (IsShort most_in_value)
+  pub key : HasAtMost most_in_key change.key
+  pub value : IfSome change.value (HasAtMost most_in_value)
 
 -- a block with such changes, not too many
 pub record IsBlock (block : Block) : Type 0 where
@@ -63,5 +63,5 @@ IsWithin Blank = Unit {0}
 IsWithin (New base) = base ≤ 16
 IsWithin (Genesis window block) = (1 ≤ window) × (window ≤ 4096) × IsBlock block × (block.parent ≡ no_parent)
 IsWithin (Job (Import block)) = IsBlock block
-IsWithin (Job (Read id key)) = IsId id × IsShort most_in_key key
+IsWithin (Job (Read id key)) = IsId id × HasAtMost most_in_key key
 IsWithin (Job (Root id)) = IsId id

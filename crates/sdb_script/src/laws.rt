@@ -5,7 +5,7 @@ ghost use Rattle.sdb_script.specs.declared.line.Line.TheVariants as lines;
 ghost use Rattle.sdb_script.specs.declared.line.Line.{Line};
 ghost use Rattle.sdb_script.specs.Grammar.{line_of, most_in_line};
 ghost use Rattle.sdb_script.specs.LineTexts.{line_text, IsWithin};
-ghost use Rattle.sdb_script.specs.Numbers.{number_of};
+ghost use Rattle.sdb_script.specs.Numbers.{number_spelled};
 
 /// Texts whose lines are known.
 pub fn known_lines()
@@ -41,8 +41,8 @@ pub fn known_lines()
 
 /// A number is spelled by its decimal digits and by no other word.
 pub fn numbers_are_decimals()
-    ensures read { (n : ℕ) → n < 2 ^ 64 → number_of (decimal n) ≡ Some n }
-    ensures only { (w : List ℕ) (n : ℕ) → n < 2 ^ 64 → number_of w ≡ Some n → w ≡ decimal n }
+    ensures read { (n : ℕ) → n < 2 ^ 64 → number_spelled (decimal n) ≡ Some n }
+    ensures only { (w : List ℕ) (n : ℕ) → n < 2 ^ 64 → number_spelled w ≡ Some n → w ≡ decimal n }
 {}
 
 /// A text's line keeps the limits of the language.
