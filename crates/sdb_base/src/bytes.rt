@@ -7,88 +7,24 @@ ghost use Rattle.std.specs.Cmp.Lexicographic.{slice_cmp};
 ghost use Rattle.std.specs.Ordering.{nat_cmp, as_partial_cmp};
 
 use crate::OutOfMemory;
-use crate::items::TryCopy;
+use crate::items::{Sequence, TryCopy};
 use std::alloc::{AllocError, Global};
 use std::cmp::Ordering;
-use std::marker::Model;
+
+/// Items that are the bytes of a byte string.
+#[derive(Debug, Clone, Copy)]
+pub struct ByteString;
 
 /// A byte string: a key, a value or a text. It is ordered as bytes are, shorter first where one begins the
 /// other.
-#[derive(Debug, Drop)]
-pub struct Bytes {
-    items: Vec<u8>,
-}
+pub type Bytes = Sequence<u8, ByteString>;
 
-impl Model for Bytes {
-    ghost use Rattle.std.specs.Prelude.{List, ℕ};
-
-    ghost Value = { List ℕ };
-
-    ghost view = { λ b. b.items.items };
-}
-
-impl Bytes {
-    /// No bytes.
-    pub fn new(alloc: Global) -> Bytes
-        ensures { result ≡ [] }
-    {
-        Bytes {
-            items: Vec::new(alloc),
-        }
-    }
-
+impl Sequence<u8, ByteString> {
     /// The bytes of `bytes`.
     pub fn from_slice(alloc: Global, bytes: &[u8]) -> Result<Bytes, OutOfMemory>
         ensures { IfOk result (λ b. b ≡ bytes.now) }
     {
-        Ok(Bytes {
-            items: Vec::from_slice(alloc, bytes)?,
-        })
-    }
-
-    /// The bytes of `items`, without taking memory.
-    pub fn from_vec(items: Vec<u8>) -> Bytes
-        ensures { result ≡ items.items }
-    {
-        Bytes { items }
-    }
-
-    /// The bytes, without taking memory.
-    pub fn into_vec(self) -> Vec<u8>
-        ensures { result.items ≡ self }
-    {
-        let Bytes { items } = self;
-        items
-    }
-
-    /// Adds a byte at the end. An `Err` changes nothing.
-    pub fn push(&mut self, byte: u8) -> Result<(), OutOfMemory>
-        ensures ok { OnOk result (self.new ≡ self.old ++ byte ∷ []) }
-        ensures err { OnErr result (self.new ≡ self.old) }
-    {
-        self.items.push(byte)?;
-        Ok(())
-    }
-
-    /// The bytes in their order.
-    pub fn as_slice(&self) -> &[u8]
-        ensures { result.now ≡ self.now }
-    {
-        self.items.as_slice()
-    }
-
-    /// How many bytes there are.
-    pub fn len(&self) -> usize
-        ensures { result ≡ length self.now }
-    {
-        self.items.len()
-    }
-
-    /// Whether there is no byte.
-    pub fn is_empty(&self) -> bool
-        ensures { IsTrue result ↔ (self.now ≡ []) }
-    {
-        self.items.is_empty()
+        Ok(Sequence::from_vec(Vec::from_slice(alloc, bytes)?))
     }
 }
 
@@ -102,9 +38,7 @@ impl Clone for Bytes {
     ghost is_clone = { λ b c. c ≡ b };
 
     fn clone(&self) -> Result<Bytes, AllocError> {
-        Ok(Bytes {
-            items: self.items.clone()?,
-        })
+        Ok(Sequence::from_vec(self.items.clone()?))
     }
 }
 

@@ -2,7 +2,7 @@ ghost use Rattle.std.specs.Prelude.{◌≡◌, ◌↔◌, [], ◌∷◌, ◌++�
 
 use crate::OutOfMemory;
 use std::alloc::Global;
-use std::marker::Model;
+use std::marker::{Model, PhantomData};
 
 /// What can be copied where there is memory.
 pub trait TryCopy: Drop + Sized {
@@ -11,13 +11,22 @@ pub trait TryCopy: Drop + Sized {
         ensures { IfOk result (λ c. c ≡ self.now) };
 }
 
-/// A list, in the order in which its items were pushed.
+/// A list, in the order in which its items were pushed. Lists of one type of items whose meanings differ have
+/// `Kind`s of their own, and so types of their own.
 #[derive(Debug, Drop)]
-pub struct Items<T> {
-    items: Vec<T>,
+pub struct Sequence<T, Kind> {
+    pub(crate) items: Vec<T>,
+    kind: PhantomData<Kind>,
 }
 
-impl<T> Model for Items<T> {
+/// The items mean what their type says.
+#[derive(Debug, Clone, Copy)]
+pub struct Typed;
+
+/// A list of items that mean what their type says.
+pub type Items<T> = Sequence<T, Typed>;
+
+impl<T, Kind> Model for Sequence<T, Kind> {
     ghost use Rattle.std.specs.Prelude.{List};
     ghost use Rattle.std.specs.Coded.{coded_list};
 
@@ -28,14 +37,30 @@ impl<T> Model for Items<T> {
     ghost view = { λ it. it.items.items };
 }
 
-impl<T> Items<T> {
+impl<T, Kind> Sequence<T, Kind> {
     /// An empty list.
-    pub fn new(alloc: Global) -> Items<T>
+    pub fn new(alloc: Global) -> Sequence<T, Kind>
         ensures { result ≡ [] }
     {
-        Items {
-            items: Vec::new(alloc),
+        Sequence::from_vec(Vec::new(alloc))
+    }
+
+    /// The list of `items`, without taking memory.
+    pub fn from_vec(items: Vec<T>) -> Sequence<T, Kind>
+        ensures { result ≡ items.items }
+    {
+        Sequence {
+            items,
+            kind: PhantomData,
         }
+    }
+
+    /// The items, without taking memory.
+    pub fn into_vec(self) -> Vec<T>
+        ensures { result.items ≡ self }
+    {
+        let Sequence { items, .. } = self;
+        items
     }
 
     /// The items in their order.
@@ -60,7 +85,7 @@ impl<T> Items<T> {
     }
 }
 
-impl<T: Drop> Items<T> {
+impl<T: Drop, Kind> Sequence<T, Kind> {
     /// Adds an item at the end. An `Err` changes nothing, and drops the item.
     pub fn push(&mut self, item: T) -> Result<(), OutOfMemory>
         ensures ok { OnOk result (self.new ≡ self.old ++ item ∷ []) }
@@ -71,7 +96,7 @@ impl<T: Drop> Items<T> {
     }
 }
 
-impl<T: TryCopy> Items<T> {
+impl<T: TryCopy> Sequence<T, Typed> {
     /// A list of the copied items.
     pub fn from_slice(alloc: Global, items: &[T]) -> Result<Items<T>, OutOfMemory>
         ensures { IfOk result (λ it. it ≡ items.now) }
@@ -84,7 +109,7 @@ impl<T: TryCopy> Items<T> {
     }
 }
 
-impl<T: TryCopy> TryCopy for Items<T> {
+impl<T: TryCopy> TryCopy for Sequence<T, Typed> {
     fn copy(&self, alloc: Global) -> Result<Items<T>, OutOfMemory> {
         Items::from_slice(alloc, self.as_slice())
     }

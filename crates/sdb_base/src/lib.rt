@@ -1,5 +1,5 @@
-//! The values that blocks and tries are made of: byte strings, nibbles, changes of keys, blocks, trie nodes and
-//! lists of them.
+//! The values that blocks, tries and commits are made of: byte strings, nibbles, changes of keys, blocks, trie
+//! nodes, operations on the database's columns, and lists of them.
 //!
 //! A contract sees each list as the list of its items and each record by its fields, so that a
 //! definition can speak of them as of plain data, and equal values are equal there however they lie in
@@ -14,18 +14,23 @@ mod change;
 mod items;
 mod nibbles;
 mod node;
+mod op;
 mod pair;
 
 pub use block::{Block, BlockId, Prepared};
-pub use bytes::Bytes;
+pub use bytes::{ByteString, Bytes};
 pub use change::{Change, Changes};
-pub use items::{Items, TryCopy};
-pub use nibbles::Nibbles;
+pub use items::{Items, Sequence, TryCopy, Typed};
+pub use nibbles::{NibbleString, Nibbles};
 pub use node::{HashList, Node, NodeHash, NodeList};
+pub use op::{Op, Ops};
 pub use pair::{Pair, Pairs};
 
 /// A list of texts, as the words of a command line.
 pub type Words = Items<Bytes>;
+
+/// A list of keys.
+pub type Keys = Items<Bytes>;
 
 /// A call found no memory.
 pub type OutOfMemory = std::alloc::AllocError;

@@ -93,6 +93,13 @@ fn prepared_blocks_are_copied(rt: HostRuntime) -> Result<(), Fail> {
     Ok(())
 }
 
+#[test]
+fn operations_are_copied(rt: HostRuntime) -> Result<(), Fail> {
+    let same = copied(rt.alloc(), operations(rt.alloc())?)?;
+    assert!(rt; are_the_operations(same.as_slice()));
+    Ok(())
+}
+
 fn pushed(alloc: Global) -> Result<Bytes, OutOfMemory> {
     let mut bytes = Bytes::new(alloc);
     bytes.push(7)?;
@@ -233,4 +240,53 @@ fn is_the_node(nodes: &[Node]) -> bool {
         return false;
     };
     node.hash == NodeHash([4; 32]) && node.bytes.as_slice() == b"node".as_slice()
+}
+
+// One operation of each kind.
+fn operations(alloc: Global) -> Result<Ops, OutOfMemory> {
+    let hash = NodeHash([8; 32]);
+    let mut ops = Ops::new(alloc);
+    let bytes = Bytes::from_slice(alloc, b"node")?;
+    ops.push(Op::AddRef { key: hash, bytes })?;
+    ops.push(Op::DropRef { key: hash })?;
+    let key = Bytes::from_slice(alloc, b"k")?;
+    let bytes = Bytes::from_slice(alloc, b"v")?;
+    ops.push(Op::Put { key, bytes })?;
+    let key = Bytes::from_slice(alloc, b"gone")?;
+    ops.push(Op::Erase { key })?;
+    Ok(ops)
+}
+
+// Whether `ops` are what `operations` makes.
+fn are_the_operations(ops: &[Op]) -> bool {
+    let [add, remove, put, erase] = ops else {
+        return false;
+    };
+    is_reference(add, remove) && is_put(put) && is_erase(erase)
+}
+
+fn is_reference(add: &Op, remove: &Op) -> bool {
+    let Op::AddRef { key, bytes } = add else {
+        return false;
+    };
+    let Op::DropRef { key: dropped } = remove else {
+        return false;
+    };
+    *key == NodeHash([8; 32])
+        && bytes.as_slice() == b"node".as_slice()
+        && *dropped == NodeHash([8; 32])
+}
+
+fn is_put(put: &Op) -> bool {
+    let Op::Put { key, bytes } = put else {
+        return false;
+    };
+    key.as_slice() == b"k".as_slice() && bytes.as_slice() == b"v".as_slice()
+}
+
+fn is_erase(erase: &Op) -> bool {
+    let Op::Erase { key } = erase else {
+        return false;
+    };
+    key.as_slice() == b"gone".as_slice()
 }

@@ -53,9 +53,9 @@ Spells bytes n = (mode : Mode) × (n < mode_limit mode) × (bytes ≡ spelled_in
 -- ---- what a reader refuses
 
 -- the bytes end before the number does
-abbrev pub IsShort : List ℕ → Type 0
-IsShort [] = Unit {0}
-IsShort (b ∷ bs) = (mode : Mode) × (b % 4 ≡ mode_bits mode) × (length (b ∷ bs) < mode_len mode)
+abbrev pub EndsEarly : List ℕ → Type 0
+EndsEarly [] = Unit {0}
+EndsEarly (b ∷ bs) = (mode : Mode) × (b % 4 ≡ mode_bits mode) × (length (b ∷ bs) < mode_len mode)
 
 -- a number stands in front in a longer mode than it needs
 abbrev pub IsNotShortest : List ℕ → Type 0
@@ -67,6 +67,6 @@ abbrev pub IsTooLarge : List ℕ → Type 0
 IsTooLarge [] = ⊥
 IsTooLarge (b ∷ bs) = b % 4 ≡ 3
 
--- a length stands in front, and fewer bytes than it says behind it
+-- a length stands in front, and fewer bytes than it says after it
 abbrev pub IsCutOff : List ℕ → Type 0
 IsCutOff bytes = (n : ℕ) × (rest : List ℕ) × (n < 2 ^ 30) × (bytes ≡ compact n ++ rest) × (length rest < n)

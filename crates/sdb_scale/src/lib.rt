@@ -1,8 +1,8 @@
-//! SCALE's compact numbers of one, two and four bytes, and byte strings behind their compact length.
+//! SCALE's compact numbers of one, two and four bytes, and byte strings after their compact length.
 //!
 //! A number below 2^30 has one spelling, in the shortest of three modes, which the two low bits of
 //! its first byte name. The writers append it; the readers take it from the front of a slice and
-//! lend the value and the bytes behind it. They read a spelling exactly where one stands in front,
+//! lend the value and the bytes after it. They read a spelling exactly where one stands in front,
 //! and else name the fault. Readers take no memory. SCALE's mode for larger numbers is left out: the
 //! formats above have no such number.
 #![tactic(auto)]

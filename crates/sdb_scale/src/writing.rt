@@ -20,7 +20,7 @@ pub fn put_compact(out: &mut Vec<u8>, n: u32) -> Result<(), ScaleFault>
     Ok(())
 }
 
-/// Appends `bytes` behind their compact length. `TooLarge` comes exactly where there are 2^30 or more; an
+/// Appends `bytes` after their compact length. `TooLarge` comes exactly where there are 2^30 or more; an
 /// `Err` leaves `out` as it was.
 pub fn put_bytes(out: &mut Vec<u8>, bytes: &[u8]) -> Result<(), ScaleFault>
     ensures ok { OnOk result (out.new.items ≡ out.old.items ++ string bytes.now) }

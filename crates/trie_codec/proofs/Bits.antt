@@ -6,7 +6,7 @@ use Rattle.std.proofs.lemmas.Bool.Decides.{nat_tests}
 use Rattle.std.proofs.lemmas.Nat.{ones_cat}
 use Rattle.std.specs.Int.Count.{ones, ones_in}
 use Rattle.std.proofs.Math.Nat.{pow-suc}
-use Rattle.trie_codec.specs.Reading.{bitmap_at, bits_set}
+use Rattle.trie_codec.specs.Reading.{first_bitmap, bits_set}
 
 ones-zero : ones 0 ≡ 0
 unfolding ones ones_in
@@ -45,7 +45,7 @@ unmarked kind map count some enough = grind (arith, nat_tests)
 
 -- a bitmap that is no fault
 pub bitmap_found : (kind map : ℕ) (bytes : List ℕ) → 2 ≤ length bytes → map ≡ from_le_bytes w16 (take 2 bytes) → map < 2 ^ 16 → (map ≡ 0 → ⊥) → (ones map ≡ 1 → kind ≡ 2 → ⊥)
-    → bitmap_at kind bytes ≡ Ok (map, drop 2 bytes)
+    → first_bitmap kind bytes ≡ Ok (map, drop 2 bytes)
 bitmap_found kind map bytes long is lt some enough =
     let there : nat_lt (length bytes) 2 ≡ false = grind (arith, nat_tests) in
     let count : bits_set map 16 ≡ ones map = bits_set-ones 16 map lt in

@@ -19,8 +19,8 @@ bit_fits true = omega arith
 bit_fits false = omega arith
 
 -- what a pattern of two leaves
-pub behind_two : (s : List ℕ) → take (length s - 2) (drop 2 s) ≡ drop 2 s
-behind_two s = take_all (length s - 2) (drop 2 s) (omega (arith, length-drop 2 s))
+pub after_two : (s : List ℕ) → take (length s - 2) (drop 2 s) ≡ drop 2 s
+after_two s = take_all (length s - 2) (drop 2 s) (omega (arith, length-drop 2 s))
 
 -- two nibbles make a byte
 pub paired_step : (s : List ℕ) (d e : ℕ) → 2 ≤ length s → (16 * get_or s 0 d + get_or s 1 e) ∷ paired (drop 2 s) ≡ paired s

@@ -1,18 +1,18 @@
--- Children that are lent, and what stands behind each.
+-- Children that are lent, and what stands after each.
 use Rattle.std.proofs.Common.{◌≡◌, ℕ, zero, suc, ◌+◌, ◌<◌, ◌≤◌, List, [], ◌∷◌, length, get_or, set, drop, replicate, map, Option, None, refl, sym, ap, subst, arith, add-one, length-append}
 use Rattle.std.specs.Prelude.{IfSome}
 use Rattle.std.specs.List.{flat_map}
 use Rattle.std.specs.Borrow.{Bor}
 use Rattle.trie_model.specs.Node.{optional_string}
-use Rattle.trie_codec.specs.Gives.{bytes_in}
+use Rattle.trie_codec.specs.Reads.{bytes_in}
 
 -- the spelling of children that are lent
 abbrev pub lent_bytes : List (Option (Bor (List ℕ))) → List ℕ
 lent_bytes cs = flat_map optional_string (map bytes_in cs)
 
--- what holds of a child that is there, by how many bytes stand behind it
-abbrev pub HoldsBehind : (Bor (List ℕ) → ℕ → Type 0) → List (Option (Bor (List ℕ))) → ℕ → ℕ → Type 0
-HoldsBehind P cs rest k = IfSome (get_or cs k None) (λ s. P s (length (lent_bytes (drop (suc k) cs)) + rest))
+-- what holds of a child that is there, by how many bytes stand after it
+abbrev pub HoldsBefore : (Bor (List ℕ) → ℕ → Type 0) → List (Option (Bor (List ℕ))) → ℕ → ℕ → Type 0
+HoldsBefore P cs rest k = IfSome (get_or cs k None) (λ s. P s (length (lent_bytes (drop (suc k) cs)) + rest))
 
 -- no child is lent where none is there
 pub none_lent : (P : Bor (List ℕ) → Type 0) (n i : ℕ) → IfSome (get_or (replicate n None) i None) P
@@ -49,30 +49,30 @@ more_spelled (c ∷ cs) zero child lt none =
 more_spelled (c ∷ cs) (suc i) child lt none =
     omega (arith, length-append (optional_string (bytes_in c)) (lent_bytes cs), length-append (optional_string (bytes_in c)) (lent_bytes (set cs i child)), more_spelled cs i child (omega arith) none)
 
-pub same_behind : (P : Bor (List ℕ) → ℕ → Type 0) (c : Option (Bor (List ℕ))) (a b : ℕ) → a ≡ b → IfSome c (λ s. P s a) → IfSome c (λ s. P s b)
-same_behind P c a b e h = subst (λ n. IfSome c (λ s. P s n)) e h
+pub same_after : (P : Bor (List ℕ) → ℕ → Type 0) (c : Option (Bor (List ℕ))) (a b : ℕ) → a ≡ b → IfSome c (λ s. P s a) → IfSome c (λ s. P s b)
+same_after P c a b e h = subst (λ n. IfSome c (λ s. P s n)) e h
 
--- One child more, where no later one is there: as many bytes stand behind each child before it.
-pub one_more_behind : (P : Bor (List ℕ) → ℕ → Type 0) (cs : List (Option (Bor (List ℕ)))) (i : ℕ) (child : Option (Bor (List ℕ))) (before after : ℕ)
-    → i < length cs → NoneFrom i cs → before ≡ length (optional_string (bytes_in child)) + after → ((k : ℕ) → HoldsBehind P cs before k)
-    → IfSome child (λ s. P s after) → (k : ℕ) → HoldsBehind P (set cs i child) after k
-one_more_behind P [] i child before after lt none took behind now k = absurd (omega arith)
-one_more_behind P (c ∷ cs) zero child before after lt none took behind now zero =
+-- One child more, where no later one is there: as many bytes stand after each child before it.
+pub one_more_after : (P : Bor (List ℕ) → ℕ → Type 0) (cs : List (Option (Bor (List ℕ)))) (i : ℕ) (child : Option (Bor (List ℕ))) (before after : ℕ)
+    → i < length cs → NoneFrom i cs → before ≡ length (optional_string (bytes_in child)) + after → ((k : ℕ) → HoldsBefore P cs before k)
+    → IfSome child (λ s. P s after) → (k : ℕ) → HoldsBefore P (set cs i child) after k
+one_more_after P [] i child before after lt none took each_after now k = absurd (omega arith)
+one_more_after P (c ∷ cs) zero child before after lt none took each_after now zero =
     let empty : lent_bytes cs ≡ [] = none_spelled cs (λ k h. none (suc k) (omega arith)) in
-    same_behind P child after (length (lent_bytes cs) + after) (omega (arith, ap length empty)) now
-one_more_behind P (c ∷ cs) zero child before after lt none took behind now (suc k) =
+    same_after P child after (length (lent_bytes cs) + after) (omega (arith, ap length empty)) now
+one_more_after P (c ∷ cs) zero child before after lt none took each_after now (suc k) =
     let gone : get_or cs k None ≡ None = none (suc k) (omega arith) in
     rw gone tt
-one_more_behind P (c ∷ cs) (suc i) child before after lt none took behind now zero =
-    same_behind P c (length (lent_bytes cs) + before) (length (lent_bytes (set cs i child)) + after)
-    (omega (arith, more_spelled cs i child (omega arith) (none (suc i) (omega arith)))) (behind zero)
-one_more_behind P (c ∷ cs) (suc i) child before after lt none took behind now (suc k) =
-    one_more_behind P cs i child before after (omega arith) (λ j h. none (suc j) (omega arith)) took (λ j. behind (suc j)) now k
+one_more_after P (c ∷ cs) (suc i) child before after lt none took each_after now zero =
+    same_after P c (length (lent_bytes cs) + before) (length (lent_bytes (set cs i child)) + after)
+    (omega (arith, more_spelled cs i child (omega arith) (none (suc i) (omega arith)))) (each_after zero)
+one_more_after P (c ∷ cs) (suc i) child before after lt none took each_after now (suc k) =
+    one_more_after P cs i child before after (omega arith) (λ j h. none (suc j) (omega arith)) took (λ j. each_after (suc j)) now k
 
 -- the same with the next place as code counts it
-pub behind_next : (P : Bor (List ℕ) → ℕ → Type 0) (cs : List (Option (Bor (List ℕ)))) (rest : ℕ) → ((k : ℕ) → HoldsBehind P cs rest k)
+pub after_next : (P : Bor (List ℕ) → ℕ → Type 0) (cs : List (Option (Bor (List ℕ)))) (rest : ℕ) → ((k : ℕ) → HoldsBefore P cs rest k)
     → (k : ℕ) → IfSome (get_or cs k None) (λ s. P s (length (lent_bytes (drop (k + 1) cs)) + rest))
-behind_next P cs rest behind k = subst (λ j. IfSome (get_or cs k None) (λ s. P s (length (lent_bytes (drop j cs)) + rest))) (sym (add-one k)) (behind k)
+after_next P cs rest each_after k = subst (λ j. IfSome (get_or cs k None) (λ s. P s (length (lent_bytes (drop j cs)) + rest))) (sym (add-one k)) (each_after k)
 
 -- all bytes that were taken are the children's
 pub more_taken : (cs : List (Option (Bor (List ℕ)))) (i : ℕ) (child : Option (Bor (List ℕ))) (total before after : ℕ) → i < length cs → NoneFrom i cs

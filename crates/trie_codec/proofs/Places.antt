@@ -20,9 +20,9 @@ middle xs i j k n m within at =
     let from : drop j (drop i xs) ≡ drop k xs = grind (arith, common_steps) in
     ap (take m) front ∙ take-take m (n - j) (drop j (drop i xs)) less ∙ ap (take m) from
 
--- a part of a part that nothing stands behind is a part
-pub part_within : (input part inner : Bor (List ℕ)) (behind : ℕ) → IsPart input part 0 → IsPart part inner behind → IsPart input inner behind
-part_within input part inner behind outer deep =
+-- a part of a part that nothing stands after is a part
+pub part_within : (input part inner : Bor (List ℕ)) (after : ℕ) → IsPart input part 0 → IsPart part inner after → IsPart input inner after
+part_within input part inner after outer deep =
     let i = place_in input part in
     let j = place_in part inner in
     let k = place_in input inner in
@@ -41,12 +41,12 @@ part_within input part inner behind outer deep =
     }
 
 -- the same of what need not be there, and of what may have failed
-pub some_within : (input part : Bor (List ℕ)) (inner : Option (Bor (List ℕ))) (behind : ℕ) → IsPart input part 0 → IfSome inner (λ s. IsPart part s behind) → IfSome inner (λ s. IsPart input s behind)
-some_within input part None behind outer deep = tt
-some_within input part (Some s) behind outer deep = part_within input part s behind outer deep
+pub some_within : (input part : Bor (List ℕ)) (inner : Option (Bor (List ℕ))) (after : ℕ) → IsPart input part 0 → IfSome inner (λ s. IsPart part s after) → IfSome inner (λ s. IsPart input s after)
+some_within input part None after outer deep = tt
+some_within input part (Some s) after outer deep = part_within input part s after outer deep
 
-pub lends_within : (input part : Bor (List ℕ)) (r : NodeRef) (behind : ℕ) → IsPart input part 0 → LendsParts part r behind → LendsParts input r behind
-lends_within input part r behind outer lends = (
-  some_within input part (value_lent r) (length (children_from 0 (parts_of r)) + behind) outer lends.0,
-  (λ i. some_within input part (child_lent r i) (length (children_from (i + 1) (parts_of r)) + behind) outer (lends.1 i)),
+pub lends_within : (input part : Bor (List ℕ)) (r : NodeRef) (after : ℕ) → IsPart input part 0 → LendsParts part r after → LendsParts input r after
+lends_within input part r after outer lends = (
+  some_within input part (value_lent r) (length (children_from 0 (parts_of r)) + after) outer lends.0,
+  (λ i. some_within input part (child_lent r i) (length (children_from (i + 1) (parts_of r)) + after) outer (lends.1 i)),
 )

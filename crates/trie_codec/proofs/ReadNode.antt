@@ -5,7 +5,7 @@ use Rattle.std.proofs.lemmas.Bool.Decides.{nat_tests}
 use Rattle.std.proofs.lemmas.List.Elements.{All-nil, All-replicate}
 use Rattle.trie_model.specs.Nibbles.{packed}
 use Rattle.trie_model.specs.Node.{AreParts, IsChild, IsPartial, IsText, Node, empty_node, header, spelling}
-use Rattle.trie_codec.specs.Reading.{Header, ◌>>=◌, body_at, branch_at, header_at, leaf_at, node_at, partial_at}
+use Rattle.trie_codec.specs.Reading.{Header, ◌>>=◌, first_body, first_branch, first_header, first_leaf, first_node, first_partial}
 use Rattle.trie_codec.proofs.ReadSteps.{AreBytes, value_is, both_gave, bytes_in_parts}
 use Rattle.trie_codec.proofs.ReadHeader.{IsHeader, header_read}
 use Rattle.trie_codec.proofs.ReadPartial.{IsKey, partial_read}
@@ -42,44 +42,44 @@ with_front P h bytes rest key x headed key_is body = record {
 
 by_kind : (reads : List ℕ → Bool) (P : Node → Type 0) → IsSound reads P → (first : Bool) (kind : ℕ) (partial bytes : List ℕ) (x : Node × List ℕ)
     → AreBytes bytes → 1 ≤ kind → kind ≤ 3 → IsPartial partial → (kind == 1) ≡ first
-    → cond first (leaf_at partial bytes) (branch_at reads kind partial bytes) ≡ Ok x → IsNodeBehind P kind partial bytes x
+    → cond first (first_leaf partial bytes) (first_branch reads kind partial bytes) ≡ Ok x → IsNodeBehind P kind partial bytes x
 by_kind reads P sound true kind partial bytes x all least most few is e =
     let one : 1 ≡ kind = grind (arith, nat_tests) in
     subst (λ k. IsNodeBehind P k partial bytes x) one (leaf_read P partial bytes x all few e)
 by_kind reads P sound false kind partial bytes x all least most few is e =
     branch_read reads P sound kind partial bytes x all (grind (arith, nat_tests)) most few e
 
-behind_by : (none : Bool) (bytes : List ℕ) (h : Header × List ℕ) → AreBytes bytes → IsHeader bytes h → (h.0.0 == 0) ≡ none → AreBytes h.1
-behind_by true bytes h all is_header is = (bytes_in_parts bytes (0 ∷ []) h.1 all (is_header.nothing (grind (arith, nat_tests)))).1
-behind_by false bytes h all is_header is =
+rest_by : (none : Bool) (bytes : List ℕ) (h : Header × List ℕ) → AreBytes bytes → IsHeader bytes h → (h.0.0 == 0) ≡ none → AreBytes h.1
+rest_by true bytes h all is_header is = (bytes_in_parts bytes (0 ∷ []) h.1 all (is_header.nothing (grind (arith, nat_tests)))).1
+rest_by false bytes h all is_header is =
     let some : h.0.0 ≡ 0 → ⊥ = grind (arith, nat_tests) in
     (bytes_in_parts bytes (header h.0.0 h.0.1) h.1 all (is_header.something some)).1
 
-behind_header : (bytes : List ℕ) (h : Header × List ℕ) → AreBytes bytes → IsHeader bytes h → AreBytes h.1
-behind_header bytes h all is_header = behind_by (h.0.0 == 0) bytes h all is_header refl
+rest_after_header : (bytes : List ℕ) (h : Header × List ℕ) → AreBytes bytes → IsHeader bytes h → AreBytes h.1
+rest_after_header bytes h all is_header = rest_by (h.0.0 == 0) bytes h all is_header refl
 
 body_read : (reads : List ℕ → Bool) (P : Node → Type 0) → IsSound reads P → (none : Bool) (bytes : List ℕ) (h : Header × List ℕ) (x : Node × List ℕ)
     → AreBytes h.1 → IsHeader bytes h → (h.0.0 == 0) ≡ none
-    → cond none (Ok (empty_node, h.1)) (partial_at h.0.1 h.1 >>= λ key. cond (h.0.0 == 1) (leaf_at key.0 key.1) (branch_at reads h.0.0 key.0 key.1)) ≡ Ok x
+    → cond none (Ok (empty_node, h.1)) (first_partial h.0.1 h.1 >>= λ key. cond (h.0.0 == 1) (first_leaf key.0 key.1) (first_branch reads h.0.0 key.0 key.1)) ≡ Ok x
     → IsNodeIn P bytes x
 body_read reads P sound true bytes h x all is_header is e =
     subst (IsNodeIn P bytes) (value_is (empty_node, h.1) x e) (nothing_read P bytes h.1 (is_header.nothing (grind (arith, nat_tests))))
 body_read reads P sound false bytes h x all is_header is e =
-    let (key, partial_is, body) = both_gave (partial_at h.0.1 h.1) (λ key. cond (h.0.0 == 1) (leaf_at key.0 key.1) (branch_at reads h.0.0 key.0 key.1)) x e in
+    let (key, partial_is, body) = both_gave (first_partial h.0.1 h.1) (λ key. cond (h.0.0 == 1) (first_leaf key.0 key.1) (first_branch reads h.0.0 key.0 key.1)) x e in
     let is_key = partial_read h.0.1 h.1 key all is_header.few partial_is in
     let some : h.0.0 ≡ 0 → ⊥ = grind (arith, nat_tests) in
-    let behind = (bytes_in_parts h.1 (packed key.0) key.1 all is_key.spelled).1 in
+    let after = (bytes_in_parts h.1 (packed key.0) key.1 all is_key.spelled).1 in
     let kind = h.0.0 in
     with_front P h.0 bytes h.1 key x (is_header.something some) is_key
-    (by_kind reads P sound (kind == 1) kind key.0 key.1 x behind (omega arith) is_header.known is_key.partial refl body)
+    (by_kind reads P sound (kind == 1) kind key.0 key.1 x after (omega arith) is_header.known is_key.partial refl body)
 
 body_of : (reads : List ℕ → Bool) (P : Node → Type 0) → IsSound reads P → (bytes : List ℕ) (h : Header × List ℕ) (x : Node × List ℕ)
-    → AreBytes bytes → IsHeader bytes h → body_at reads h.0 h.1 ≡ Ok x → IsNodeIn P bytes x
-body_of reads P sound bytes h x all is_header e = body_read reads P sound (h.0.0 == 0) bytes h x (behind_header bytes h all is_header) is_header refl e
+    → AreBytes bytes → IsHeader bytes h → first_body reads h.0 h.1 ≡ Ok x → IsNodeIn P bytes x
+body_of reads P sound bytes h x all is_header e = body_read reads P sound (h.0.0 == 0) bytes h x (rest_after_header bytes h all is_header) is_header refl e
 
 pub node_read : (reads : List ℕ → Bool) (P : Node → Type 0) → IsSound reads P → (bytes : List ℕ) (x : Node × List ℕ) → AreBytes bytes
-    → node_at reads bytes ≡ Ok x → IsNodeIn P bytes x
-unfolding node_at
+    → first_node reads bytes ≡ Ok x → IsNodeIn P bytes x
+unfolding first_node
 node_read reads P sound bytes x all e =
-    let (h, header_is, body) = both_gave (header_at bytes) (λ h. body_at reads h.0 h.1) x e in
+    let (h, header_is, body) = both_gave (first_header bytes) (λ h. first_body reads h.0 h.1) x e in
     body_of reads P sound bytes h x all (header_read bytes h all header_is) body

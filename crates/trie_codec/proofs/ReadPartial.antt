@@ -8,7 +8,7 @@ use Rattle.sdb_base.specs.Nibbles.{nibbles_of}
 use Rattle.trie_model.specs.Nibbles.{packed, paired}
 use Rattle.trie_model.specs.Node.{IsPartial}
 use Rattle.trie_codec.specs.declared.fault.CodecFault.TheVariants.{Short, BadPadding}
-use Rattle.trie_codec.specs.Reading.{◌>>=◌, bytes_at, padding_at, partial_at}
+use Rattle.trie_codec.specs.Reading.{◌>>=◌, first_bytes, checked_padding, first_partial}
 use Rattle.trie_codec.proofs.Partial.{length-nibbles_of, partial_lengths}
 use Rattle.trie_codec.proofs.ReadSteps.{AreBytes, value_is, both_gave, no_fault, bytes_in_parts, taken}
 
@@ -46,7 +46,7 @@ packed-nibbles (suc zero) (b ∷ bs) few padded =
     rw (packed_odd ((b % 16) ∷ nibbles_of bs) (omega (arith, length-nibbles_of bs)), low) (ap (λ (l : List ℕ). b ∷ l) (paired-nibbles_of bs))
 packed-nibbles (suc (suc odd)) bytes few padded = absurd (omega arith)
 
-padded : (n : ℕ) (bytes checked : List ℕ) → padding_at n bytes ≡ Ok checked
+padded : (n : ℕ) (bytes checked : List ℕ) → checked_padding n bytes ≡ Ok checked
     → (bytes ≡ checked) × (n % 2 ≡ 1 → (1 ≤ length bytes) × (get_or bytes 0 0 < 16))
 padded n [] checked e =
     let (even, read) = no_fault (n % 2 == 1) Short (Ok []) checked e in
@@ -61,13 +61,13 @@ pub record IsKey (n : ℕ) (bytes : List ℕ) (x : List ℕ × List ℕ) : Type 
   pub count : length x.0 ≡ n
   pub spelled : bytes ≡ packed x.0 ++ x.1
 
-pub partial_read : (n : ℕ) (bytes : List ℕ) (x : List ℕ × List ℕ) → AreBytes bytes → n ≤ 2048 → partial_at n bytes ≡ Ok x → IsKey n bytes x
-unfolding partial_at
+pub partial_read : (n : ℕ) (bytes : List ℕ) (x : List ℕ × List ℕ) → AreBytes bytes → n ≤ 2048 → first_partial n bytes ≡ Ok x → IsKey n bytes x
+unfolding first_partial
 partial_read n bytes x all few e =
     let keep : List ℕ × List ℕ → List ℕ × List ℕ = λ found. (drop (n % 2) (nibbles_of found.0), found.1) in
-    let (checked, check, after) = both_gave (padding_at n bytes) (λ checked. bytes_at ((n + 1) / 2) checked >>= λ found. Ok (keep found)) x e in
+    let (checked, check, after) = both_gave (checked_padding n bytes) (λ checked. first_bytes ((n + 1) / 2) checked >>= λ found. Ok (keep found)) x e in
     let (same, small) = padded n bytes checked check in
-    let (found, take, gave) = both_gave (bytes_at ((n + 1) / 2) checked) (λ found. Ok (keep found)) x after in
+    let (found, take, gave) = both_gave (first_bytes ((n + 1) / 2) checked) (λ found. Ok (keep found)) x after in
     let (len, split) = taken ((n + 1) / 2) checked found take in
     let whole : bytes ≡ found.0 ++ found.1 = same ∙ split in
     let first : 1 ≤ length found.0 → get_or bytes 0 0 ≡ get_or found.0 0 0 = λ some. ap (λ l. get_or l 0 0) whole ∙ get_or_append_left found.0 found.1 0 0 some in

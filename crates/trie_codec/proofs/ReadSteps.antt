@@ -6,7 +6,7 @@ use Rattle.std.proofs.lemmas.List.{length-take-le, take-append-drop}
 use Rattle.std.proofs.lemmas.List.Elements.{All-nil, All-cons, All-head, All-tail}
 use Rattle.trie_codec.specs.declared.fault.CodecFault.{CodecFault}
 use Rattle.trie_codec.specs.declared.fault.CodecFault.TheVariants.{Short}
-use Rattle.trie_codec.specs.Reading.{◌>>=◌, bytes_at}
+use Rattle.trie_codec.specs.Reading.{◌>>=◌, first_bytes}
 
 -- each is a byte
 abbrev pub AreBytes : List ℕ → Type 0
@@ -31,14 +31,14 @@ no_fault false f read x e = (refl, e)
 pub All-parts : {X : Type 0} (P : X → Type 0) (xs ys : List X) → All P (xs ++ ys) → All P xs × All P ys
 All-parts P [] ys h = (All-nil P, h)
 All-parts P (x ∷ xs) ys h =
-    let behind = All-parts P xs ys (All-tail P x (xs ++ ys) h) in
-    (All-cons P x xs (All-head P x (xs ++ ys) h) behind.0, behind.1)
+    let after = All-parts P xs ys (All-tail P x (xs ++ ys) h) in
+    (All-cons P x xs (All-head P x (xs ++ ys) h) after.0, after.1)
 
 pub bytes_in_parts : (bytes front rest : List ℕ) → AreBytes bytes → bytes ≡ front ++ rest → AreBytes front × AreBytes rest
 bytes_in_parts bytes front rest all e = All-parts (λ b. b < 256) front rest (subst AreBytes e all)
 
 -- so many bytes, and what follows them
-pub taken : (n : ℕ) (bytes : List ℕ) (x : List ℕ × List ℕ) → bytes_at n bytes ≡ Ok x → (length x.0 ≡ n) × (bytes ≡ x.0 ++ x.1)
+pub taken : (n : ℕ) (bytes : List ℕ) (x : List ℕ × List ℕ) → first_bytes n bytes ≡ Ok x → (length x.0 ≡ n) × (bytes ≡ x.0 ++ x.1)
 taken n bytes x e =
     let (there, read) = no_fault (nat_lt (length bytes) n) Short (Ok (take n bytes, drop n bytes)) x e in
     let enough : n ≤ length bytes = grind (arith, nat_tests) in

@@ -8,10 +8,10 @@ use Rattle.std.proofs.lemmas.List.Elements.{All-head, All-tail}
 use Rattle.std.proofs.lemmas.Nat.{le_bytes_2, le_bytes_4}
 use Rattle.sdb_scale.specs.Compact.{compact, string}
 use Rattle.trie_codec.specs.declared.fault.CodecFault.TheVariants.{BadLength}
-use Rattle.trie_codec.specs.Reading.{◌>>=◌, bytes_at, length_at, shortest, string_at}
+use Rattle.trie_codec.specs.Reading.{◌>>=◌, first_bytes, first_length, shortest, first_string}
 use Rattle.trie_codec.proofs.ReadSteps.{AreBytes, value_is, both_gave, no_fault, bytes_in_parts, taken}
 
--- at each place, also behind the last one
+-- at each place, also after the last one
 pub each_byte : (bytes : List ℕ) → AreBytes bytes → (i : ℕ) → get_or bytes i 0 < 256
 each_byte [] all i = lit< tt
 each_byte (b ∷ bs) all zero = All-head (λ b. b < 256) b bs all
@@ -81,8 +81,8 @@ mode_four b bs f x all mode len split e =
 
 by_mode : (one two four : Bool) (b : ℕ) (bs : List ℕ) (x : ℕ × List ℕ) → AreBytes (b ∷ bs)
     → (b % 4 == 0) ≡ one → (b % 4 == 1) ≡ two → (b % 4 == 2) ≡ four
-    → cond one (Ok (b / 4, bs)) (cond two (bytes_at 2 (b ∷ bs) >>= λ f. shortest 64 (from_le_bytes w16 f.0 / 4) f.1)
-    (cond four (bytes_at 4 (b ∷ bs) >>= λ f. shortest 16384 (from_le_bytes w32 f.0 / 4) f.1) (Err BadLength))) ≡ Ok x
+    → cond one (Ok (b / 4, bs)) (cond two (first_bytes 2 (b ∷ bs) >>= λ f. shortest 64 (from_le_bytes w16 f.0 / 4) f.1)
+    (cond four (first_bytes 4 (b ∷ bs) >>= λ f. shortest 16384 (from_le_bytes w32 f.0 / 4) f.1) (Err BadLength))) ≡ Ok x
     → IsLength (b ∷ bs) x
 by_mode true two four b bs x all is_one is_two is_four e =
     let byte : b < 256 = All-head (λ b. b < 256) b bs all in
@@ -91,17 +91,17 @@ by_mode true two four b bs x all is_one is_two is_four e =
     let spelled : b ∷ bs ≡ compact (b / 4) ++ bs = rw (compact_one (b / 4) (omega arith), again) refl in
     subst (IsLength (b ∷ bs)) (value_is (b / 4, bs) x e) (record { short = omega arith; spelled = spelled })
 by_mode false true four b bs x all is_one is_two is_four e =
-    let (f, take, gave) = both_gave (bytes_at 2 (b ∷ bs)) (λ f. shortest 64 (from_le_bytes w16 f.0 / 4) f.1) x e in
+    let (f, take, gave) = both_gave (first_bytes 2 (b ∷ bs)) (λ f. shortest 64 (from_le_bytes w16 f.0 / 4) f.1) x e in
     let (len, split) = taken 2 (b ∷ bs) f take in
     mode_two b bs f x all (grind (arith, nat_tests)) len split gave
 by_mode false false true b bs x all is_one is_two is_four e =
-    let (f, take, gave) = both_gave (bytes_at 4 (b ∷ bs)) (λ f. shortest 16384 (from_le_bytes w32 f.0 / 4) f.1) x e in
+    let (f, take, gave) = both_gave (first_bytes 4 (b ∷ bs)) (λ f. shortest 16384 (from_le_bytes w32 f.0 / 4) f.1) x e in
     let (len, split) = taken 4 (b ∷ bs) f take in
     mode_four b bs f x all (grind (arith, nat_tests)) len split gave
 by_mode false false false b bs x all is_one is_two is_four e = absurd (cc)
 
-pub length_read : (bytes : List ℕ) (x : ℕ × List ℕ) → AreBytes bytes → length_at bytes ≡ Ok x → IsLength bytes x
-unfolding length_at
+pub length_read : (bytes : List ℕ) (x : ℕ × List ℕ) → AreBytes bytes → first_length bytes ≡ Ok x → IsLength bytes x
+unfolding first_length
 length_read [] x all e = absurd (cc)
 length_read (b ∷ bs) x all e = by_mode (b % 4 == 0) (b % 4 == 1) (b % 4 == 2) b bs x all refl refl refl e
 
@@ -111,18 +111,18 @@ pub record IsString (bytes : List ℕ) (x : List ℕ × List ℕ) : Type 0 where
   pub text : AreBytes x.0
   pub spelled : bytes ≡ string x.0 ++ x.1
 
-pub string_taken : (n : ℕ × List ℕ) (bytes : List ℕ) (x : List ℕ × List ℕ) → AreBytes bytes → IsLength bytes n → bytes_at n.0 n.1 ≡ Ok x → IsString bytes x
+pub string_taken : (n : ℕ × List ℕ) (bytes : List ℕ) (x : List ℕ × List ℕ) → AreBytes bytes → IsLength bytes n → first_bytes n.0 n.1 ≡ Ok x → IsString bytes x
 string_taken n bytes x all is e =
     let (len, split) = taken n.0 n.1 x e in
-    let behind = (bytes_in_parts bytes (compact n.0) n.1 all is.spelled).1 in
+    let after = (bytes_in_parts bytes (compact n.0) n.1 all is.spelled).1 in
     record {
       short = omega (arith, is.short);
-      text = (bytes_in_parts n.1 x.0 x.1 behind split).0;
+      text = (bytes_in_parts n.1 x.0 x.1 after split).0;
       spelled = rw (len, append_assoc) (is.spelled ∙ ap (λ l. compact n.0 ++ l) split);
     }
 
-pub string_read : (bytes : List ℕ) (x : List ℕ × List ℕ) → AreBytes bytes → string_at bytes ≡ Ok x → IsString bytes x
-unfolding string_at
+pub string_read : (bytes : List ℕ) (x : List ℕ × List ℕ) → AreBytes bytes → first_string bytes ≡ Ok x → IsString bytes x
+unfolding first_string
 string_read bytes x all e =
-    let (n, len, take) = both_gave (length_at bytes) (λ n. bytes_at n.0 n.1) x e in
+    let (n, len, take) = both_gave (first_length bytes) (λ n. first_bytes n.0 n.1) x e in
     string_taken n bytes x all (length_read bytes n all len) take

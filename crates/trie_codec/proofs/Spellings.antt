@@ -3,13 +3,13 @@ use Rattle.std.proofs.Common.{◌≡◌, List, ℕ, [], ◌++◌, Result, Ok, Er
 use Rattle.std.proofs.lemmas.List.{append-nil}
 use Rattle.trie_model.specs.Node.{IsNode, Node, spelling}
 use Rattle.trie_codec.specs.declared.fault.CodecFault.{CodecFault}
-use Rattle.trie_codec.specs.Reading.{node_at, node_of_bytes, reads_inline, whole}
+use Rattle.trie_codec.specs.Reading.{first_node, node_of_bytes, reads_inline, whole}
 use Rattle.trie_codec.proofs.Written.{node_read}
 
 pub whole_read : (n : Node) → IsNode n → node_of_bytes (spelling n) ≡ Ok n
 unfolding node_of_bytes
 whole_read n is_node =
-    ap (λ (bytes : List ℕ). whole (node_at (reads_inline 32) bytes)) (sym (append-nil (spelling n))) ∙ ap whole (node_read 32 n [] is_node)
+    ap (λ (bytes : List ℕ). whole (first_node (reads_inline 32) bytes)) (sym (append-nil (spelling n))) ∙ ap whole (node_read 32 n [] is_node)
 
 same_found : (read : Result (Node × List ℕ) CodecFault) (m n : Node) (x y : List ℕ) → read ≡ Ok (m, x) → read ≡ Ok (n, y) → (m ≡ n) × (x ≡ y)
 same_found read m n x y first second =
@@ -18,7 +18,7 @@ same_found read m n x y first second =
 
 pub one_spelling : (m n : Node) (x y : List ℕ) → IsNode m → IsNode n → spelling m ++ x ≡ spelling n ++ y → (m ≡ n) × (x ≡ y)
 one_spelling m n x y first second same =
-    same_found (node_at (reads_inline 32) (spelling m ++ x)) m n x y (node_read 32 m x first) (ap (node_at (reads_inline 32)) same ∙ node_read 32 n y second)
+    same_found (first_node (reads_inline 32) (spelling m ++ x)) m n x y (node_read 32 m x first) (ap (first_node (reads_inline 32)) same ∙ node_read 32 n y second)
 
 -- what bytes read as, where they are the spelling of a node
 pub found_as_spelled : (bytes : List ℕ) (m n : Node) → node_of_bytes bytes ≡ Ok m → IsNode n → bytes ≡ spelling n → m ≡ n

@@ -9,10 +9,10 @@ use Rattle.std.proofs.lemmas.List.{append-nil}
 use Rattle.std.proofs.lemmas.List.Elements.{All-weaker}
 use Rattle.std.proofs.lemmas.Slice.Eq.{bytes_eq-Decides}
 use Rattle.sdb_scale.specs.Compact.{string}
-use Rattle.trie_model.specs.Node.{Node, AreParts, IsChild, IsNodeWithin, IsPartial, IsShaped, IsShort, IsText, bitmap, branch_kind, empty_node, has_child, optional_string, spelled, spelling}
-use Rattle.trie_codec.specs.Reading.{header_at, node_at, reads_inline}
+use Rattle.trie_model.specs.Node.{Node, AreParts, IsChild, IsNodeWithin, IsPartial, IsShaped, HasCompactLength, IsText, bitmap, branch_kind, empty_node, has_child, optional_string, spelled, spelling}
+use Rattle.trie_codec.specs.Reading.{first_header, first_node, reads_inline}
 use Rattle.trie_codec.proofs.Bitmaps.{childless_list, none_counted}
-use Rattle.trie_codec.proofs.Bodies.{behind_partial, branch_read}
+use Rattle.trie_codec.proofs.Bodies.{after_partial, branch_read}
 use Rattle.trie_codec.proofs.WrittenChildren.{IfChildIsRead}
 use Rattle.trie_codec.proofs.Lengths.{string_read}
 
@@ -24,15 +24,15 @@ nothing_is_empty : (ps : List ℕ) (cs : List (Option (List ℕ))) → has_child
 nothing_is_empty ps cs none (inl e) = sym e
 nothing_is_empty ps cs none (inr some) = absurd (omega (arith, some.0, none_counted cs none))
 
-empty_read : (reads : List ℕ → Bool) (rest : List ℕ) → node_at reads (0 ∷ rest) ≡ Ok (empty_node, rest)
-unfolding node_at header_at
+empty_read : (reads : List ℕ → Bool) (rest : List ℕ) → first_node reads (0 ∷ rest) ≡ Ok (empty_node, rest)
+unfolding first_node first_header
 empty_read reads rest = refl
 
-leaf_read : (reads : List ℕ → Bool) (ps v : List ℕ) (cs : List (Option (List ℕ))) (rest : List ℕ) → IsPartial ps → IsShort v → length cs ≡ 16 → has_child cs ≡ false
-    → node_at reads (spelled false (Some v) (record { partial = ps; value = Some v; children = cs }) ++ rest) ≡ Ok (record { partial = ps; value = Some v; children = cs }, rest)
+leaf_read : (reads : List ℕ → Bool) (ps v : List ℕ) (cs : List (Option (List ℕ))) (rest : List ℕ) → IsPartial ps → HasCompactLength v → length cs ≡ 16 → has_child cs ≡ false
+    → first_node reads (spelled false (Some v) (record { partial = ps; value = Some v; children = cs }) ++ rest) ≡ Ok (record { partial = ps; value = Some v; children = cs }, rest)
 leaf_read reads ps v cs rest few short sixteen none =
     let no_children : replicate 16 None ≡ cs = sym (childless_list cs none ∙ ap (λ n. replicate n None) sixteen) in
-    behind_partial reads 1 ps (string v) rest (lit≤ tt) few
+    after_partial reads 1 ps (string v) rest (lit≤ tt) few
     ∙ rw (string_read v rest short) (ap (λ (children : List (Option (List ℕ))). Ok (record { partial = ps; value = Some v; children = children }, rest)) no_children)
 
 -- a branch has a kind of its own, and children enough
@@ -48,26 +48,26 @@ enough : (n : Node) → has_child n.children ≡ true → IsShaped n → 2 ≤ c
 enough n some (inl e) = let none : has_child n.children ≡ false = ap (λ (m : Node). has_child m.children) e in cc
 enough n some (inr counts) = counts.1 some
 
-branch_written : (reads : List ℕ → Bool) (n : Node) (rest : List ℕ) → IsPartial n.partial → IfSome n.value IsShort → length n.children ≡ 16
-    → All (IfChildIsRead reads) n.children → has_child n.children ≡ true → IsShaped n → node_at reads (spelled true n.value n ++ rest) ≡ Ok (n, rest)
+branch_written : (reads : List ℕ → Bool) (n : Node) (rest : List ℕ) → IsPartial n.partial → IfSome n.value HasCompactLength → length n.children ≡ 16
+    → All (IfChildIsRead reads) n.children → has_child n.children ≡ true → IsShaped n → first_node reads (spelled true n.value n ++ rest) ≡ Ok (n, rest)
 branch_written reads n rest few short sixteen all some shaped =
     let body = to_le_bytes w16 (bitmap n.children) ++ (optional_string n.value ++ flat_map optional_string n.children) in
-    behind_partial reads (branch_kind n.value) n.partial body rest (has_kind n.value) few
+    after_partial reads (branch_kind n.value) n.partial body rest (has_kind n.value) few
     ∙ rw (is_no_leaf n.value, append_assoc (optional_string n.value) (flat_map optional_string n.children) rest)
     (branch_read reads n.partial n.value n.children rest short sixteen all some (enough n some shaped))
 
 -- ---- a node by its parts
 
 by_shape : (reads : List ℕ → Bool) (ps : List ℕ) (value : Option (List ℕ)) (cs : List (Option (List ℕ))) (rest : List ℕ) (t : Bool)
-    → has_child cs ≡ t → IsPartial ps → IfSome value IsShort → length cs ≡ 16 → All (IfChildIsRead reads) cs → IsShaped (record { partial = ps; value = value; children = cs })
-    → node_at reads (spelled t value (record { partial = ps; value = value; children = cs }) ++ rest) ≡ Ok (record { partial = ps; value = value; children = cs }, rest)
+    → has_child cs ≡ t → IsPartial ps → IfSome value HasCompactLength → length cs ≡ 16 → All (IfChildIsRead reads) cs → IsShaped (record { partial = ps; value = value; children = cs })
+    → first_node reads (spelled t value (record { partial = ps; value = value; children = cs }) ++ rest) ≡ Ok (record { partial = ps; value = value; children = cs }, rest)
 by_shape reads ps None cs rest false none few short sixteen all shaped =
     empty_read reads rest ∙ ap (λ (n : Node). Ok (n, rest)) (nothing_is_empty ps cs none shaped)
 by_shape reads ps (Some v) cs rest false none few short sixteen all shaped = leaf_read reads ps v cs rest few short sixteen none
 by_shape reads ps value cs rest true some few short sixteen all shaped =
     branch_written reads (record { partial = ps; value = value; children = cs }) rest few short sixteen all some shaped
 
-value_short : (value : Option (List ℕ)) → IsText value → IfSome value IsShort
+value_short : (value : Option (List ℕ)) → IsText value → IfSome value HasCompactLength
 value_short None text = tt
 value_short (Some v) text = text.0
 
@@ -82,7 +82,7 @@ child_is_read reads P none alone (Some (b ∷ bs)) (inr inline) =
     record { some = omega arith; few = omega (arith, inline.0); reads_alone = λ lt. ap reads inline.3 ∙ alone inline.1 inline.2 inline.4 }
 
 by_parts : (reads : List ℕ → Bool) (P : Node → Type 0) → reads [] ≡ false → ((m : Node) → P m → (spelling m ≡ 0 ∷ [] → ⊥) → reads (spelling m) ≡ true)
-    → (n : Node) (rest : List ℕ) → AreParts P n → node_at reads (spelling n ++ rest) ≡ Ok (n, rest)
+    → (n : Node) (rest : List ℕ) → AreParts P n → first_node reads (spelling n ++ rest) ≡ Ok (n, rest)
 unfolding spelling
 by_parts reads P none alone n rest parts =
     let all : All (IfChildIsRead reads) n.children = All-weaker (IsChild P) (IfChildIsRead reads) (child_is_read reads P none alone) n.children parts.children in
@@ -91,18 +91,18 @@ by_parts reads P none alone n rest parts =
 -- ---- by depth
 
 none_reads : (d : ℕ) → reads_inline d [] ≡ false
-unfolding reads_inline node_at header_at
+unfolding reads_inline first_node first_header
 none_reads zero = refl
 none_reads (suc d) = refl
 
-read_alone : (d : ℕ) (m : Node) → node_at (reads_inline d) (spelling m ++ []) ≡ Ok (m, []) → (spelling m ≡ 0 ∷ [] → ⊥) → reads_inline (suc d) (spelling m) ≡ true
+read_alone : (d : ℕ) (m : Node) → first_node (reads_inline d) (spelling m ++ []) ≡ Ok (m, []) → (spelling m ≡ 0 ∷ [] → ⊥) → reads_inline (suc d) (spelling m) ≡ true
 unfolding reads_inline
 read_alone d m found other =
-    let alone : node_at (reads_inline d) (spelling m) ≡ Ok (m, []) = ap (node_at (reads_inline d)) (sym (append-nil (spelling m))) ∙ found in
+    let alone : first_node (reads_inline d) (spelling m) ≡ Ok (m, []) = ap (first_node (reads_inline d)) (sym (append-nil (spelling m))) ∙ found in
     let some : bytes_eq (spelling m) (0 ∷ []) ≡ false = false_from_ne_true (bytes_eq (spelling m) (0 ∷ [])) (λ e. other ((bytes_eq-Decides (spelling m) (0 ∷ [])).0 e)) in
     rw (alone, some) refl
 
-pub node_read : (d : ℕ) (n : Node) (rest : List ℕ) → IsNodeWithin (suc d) n → node_at (reads_inline d) (spelling n ++ rest) ≡ Ok (n, rest)
+pub node_read : (d : ℕ) (n : Node) (rest : List ℕ) → IsNodeWithin (suc d) n → first_node (reads_inline d) (spelling n ++ rest) ≡ Ok (n, rest)
 unfolding IsNodeWithin
 node_read zero n rest h = by_parts (reads_inline zero) (IsNodeWithin zero) (none_reads zero) (λ m none. absurd none) n rest h
 node_read (suc d) n rest h =

@@ -7,7 +7,7 @@ use Rattle.std.proofs.lemmas.Bool.Decides.{nat_tests}
 use Rattle.std.proofs.lemmas.List.Elements.{All-head, All-tail}
 use Rattle.sdb_scale.specs.Compact.{string, compact}
 use Rattle.trie_model.specs.Node.{bitmap, optional_string}
-use Rattle.trie_codec.specs.Reading.{child_at, children_at}
+use Rattle.trie_codec.specs.Reading.{first_child, first_children}
 use Rattle.trie_codec.proofs.Lengths.{length_read}
 use Rattle.trie_codec.proofs.Unpacked.{front_read}
 
@@ -25,15 +25,15 @@ taken : (reads : List ℕ → Bool) (c : List ℕ) → IsRead reads c → (lengt
 taken reads c h (inl lt) = rw (lt-ltb (length c) 32 lt, h.reads_alone lt) refl
 taken reads c h (inr le) = rw (le-ltb (length c) 32 le) refl
 
-child_read : (reads : List ℕ → Bool) (c rest : List ℕ) → IsRead reads c → child_at reads (string c ++ rest) ≡ Ok (c, rest)
+child_read : (reads : List ℕ → Bool) (c rest : List ℕ) → IsRead reads c → first_child reads (string c ++ rest) ≡ Ok (c, rest)
 child_read reads c rest h =
     let short : length c < 2 ^ 30 = omega (arith, h.few) in
     let fits : ((length c == 0) || nat_lt 32 (length c)) ≡ false = grind (arith, nat_tests, h.some, h.few) in
     rw (append_assoc (compact (length c)) c rest, length_read (length c) (c ++ rest) short, fits, front_read c rest (length c) refl, taken reads c h (cases_lt (length c) 32)) refl
 
 pub children_read : (reads : List ℕ → Bool) (cs : List (Option (List ℕ))) (rest : List ℕ) → All (IfChildIsRead reads) cs
-    → children_at reads (length cs) (bitmap cs) (flat_map optional_string cs ++ rest) ≡ Ok (cs, rest)
-unfolding children_at
+    → first_children reads (length cs) (bitmap cs) (flat_map optional_string cs ++ rest) ≡ Ok (cs, rest)
+unfolding first_children
 children_read reads [] rest all = refl
 children_read reads (None ∷ cs) rest all =
     let low : ((0 + 2 * bitmap cs) % 2) ≡ 0 = omega arith in

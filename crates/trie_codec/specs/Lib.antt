@@ -1,4 +1,4 @@
-pub mod Gives
+pub mod Reads
 pub mod NodeParts
 pub mod Parts
 pub mod Places

@@ -3,7 +3,7 @@ use Rattle.std.specs.Prelude.{◌≡◌, ◌<◌, ℕ, ◌%◌, Bool, true, fals
 use Rattle.std.specs.Borrow.{Bor}
 use Rattle.sdb_base.specs.Nibbles.{nibbles_of}
 use Rattle.trie_model.specs.Node.{Node, has_child}
-use Rattle.trie_codec.specs.Gives.{bytes_in}
+use Rattle.trie_codec.specs.Reads.{bytes_in}
 use Rattle.trie_codec.specs.declared.node_ref.NodeRef.{NodeRef}
 use Rattle.trie_codec.specs.declared.node_ref.Kind.{Kind}
 use Rattle.trie_codec.specs.declared.node_ref.Kind.TheVariants.{Empty, Leaf, Branch}

@@ -6,25 +6,25 @@ use Rattle.trie_model.specs.Node.{Node, optional_string}
 use Rattle.trie_codec.specs.NodeParts.{child_lent, parts_of, value_lent}
 use Rattle.trie_codec.specs.declared.node_ref.NodeRef.{NodeRef}
 
--- how many bytes behind the input's first one a slice begins
+-- how many bytes after the input's first one a slice begins
 abbrev pub place_in : Bor (List ℕ) → Bor (List ℕ) → ℕ
 place_in input part = part.ref_ptr.1 - input.ref_ptr.1
 
--- A slice is the part of the input behind which so many bytes stand: it lies in the input's memory, has the bytes that
+-- A slice is the part of the input after which so many bytes stand: it lies in the input's memory, has the bytes that
 -- stand at its place, and ends so many bytes before the input does.
-pub record IsPart (input part : Bor (List ℕ)) (behind : ℕ) : Type 0 where
+pub record IsPart (input part : Bor (List ℕ)) (after : ℕ) : Type 0 where
   pub block : part.ref_ptr.0 ≡ input.ref_ptr.0
   pub begins : input.ref_ptr.1 ≤ part.ref_ptr.1
-  pub ends : place_in input part + length part.now + behind ≡ length input.now
+  pub ends : place_in input part + length part.now + after ≡ length input.now
   pub bytes : part.now ≡ slice_range input.now (place_in input part) (place_in input part + length part.now)
 
 -- the spelling of a node's children from one on
 abbrev pub children_from : ℕ → Node → List ℕ
 children_from i n = flat_map optional_string (drop i n.children)
 
--- Where a node's value and children lie in an input that has so many bytes behind the node: all children stand behind
--- the value, and the later children behind a child.
+-- Where a node's value and children lie in an input that has so many bytes after the node: all children stand after
+-- the value, and the later children after a child.
 abbrev pub LendsParts : Bor (List ℕ) → NodeRef → ℕ → Type 0
-LendsParts input r behind =
-    IfSome (value_lent r) (λ v. IsPart input v (length (children_from 0 (parts_of r)) + behind))
-    × ((i : ℕ) → IfSome (child_lent r i) (λ c. IsPart input c (length (children_from (i + 1) (parts_of r)) + behind)))
+LendsParts input r after =
+    IfSome (value_lent r) (λ v. IsPart input v (length (children_from 0 (parts_of r)) + after))
+    × ((i : ℕ) → IfSome (child_lent r i) (λ c. IsPart input c (length (children_from (i + 1) (parts_of r)) + after)))

@@ -21,7 +21,7 @@ pub enum CodecFault {
     /// 6: a child of no bytes, of over 32, or of 1 to 31 that don't read as a leaf or branch.
     #[error("a child that is no hash and no node")]
     BadChild,
-    /// 7: bytes behind the node.
-    #[error("bytes behind the node")]
+    /// 7: bytes after the node.
+    #[error("bytes after the node")]
     Trailing,
 }

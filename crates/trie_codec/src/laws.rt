@@ -1,6 +1,6 @@
 ghost use Rattle.std.specs.Prelude.{◌≡◌, ℕ, ◌<◌, List, [], ◌∷◌, ◌++◌, All, replicate, None, Some, Err, Ok};
 ghost use Rattle.trie_model.specs.Node.{IsNode, Node, empty_node, spelling};
-ghost use Rattle.trie_codec.specs.Reading.{node_at, node_of_bytes, reads_inline};
+ghost use Rattle.trie_codec.specs.Reading.{first_node, node_of_bytes, reads_inline};
 
 use crate::fault::CodecFault;
 
@@ -22,14 +22,14 @@ pub fn known_readings()
 /// What is written is read: in front of any bytes a node's spelling reads as the node, and ends where it ends. So no two
 /// nodes share a spelling, and none begins another.
 pub fn what_is_written_is_read()
-    ensures front { (n : Node) (rest : List ℕ) → IsNode n → node_at (reads_inline 32) (spelling n ++ rest) ≡ Ok (n, rest) }
+    ensures front { (n : Node) (rest : List ℕ) → IsNode n → first_node (reads_inline 32) (spelling n ++ rest) ≡ Ok (n, rest) }
     ensures whole { (n : Node) → IsNode n → node_of_bytes (spelling n) ≡ Ok n }
     ensures one { (m n : Node) (x y : List ℕ) → IsNode m → IsNode n → spelling m ++ x ≡ spelling n ++ y → (m ≡ n) × (x ≡ y) }
 {}
 
 /// What is read was written: bytes that read as a node are its spelling, and its parts are those of a node.
 pub fn what_is_read_was_written()
-    ensures front { (n : Node) (bytes rest : List ℕ) → All (λ b. b < 256) bytes → node_at (reads_inline 32) bytes ≡ Ok (n, rest)
+    ensures front { (n : Node) (bytes rest : List ℕ) → All (λ b. b < 256) bytes → first_node (reads_inline 32) bytes ≡ Ok (n, rest)
         → IsNode n × (bytes ≡ spelling n ++ rest) }
     ensures whole { (n : Node) (bytes : List ℕ) → All (λ b. b < 256) bytes → node_of_bytes bytes ≡ Ok n → IsNode n × (bytes ≡ spelling n) }
 {}

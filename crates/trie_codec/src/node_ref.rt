@@ -1,7 +1,7 @@
 ghost use Rattle.std.specs.Prelude.{◌≡◌, ◌+◌, ◌/◌, ◌<◌, ◌≤◌, ℕ, IfSome, None, length, slice_index, slice_index_or, is_some};
 ghost use Rattle.std.specs.List.{list_any};
 ghost use Rattle.std.proofs.Props.{props};
-ghost use Rattle.trie_codec.specs.Gives.{bytes_in};
+ghost use Rattle.trie_codec.specs.Reads.{bytes_in};
 
 /// What a node is.
 #[derive(Debug, Clone, Copy, PartialEq, Eq)]

@@ -3,11 +3,11 @@ ghost use Rattle.std.specs.List.{flat_map};
 ghost use Rattle.sdb_base.specs.Nibbles.{nibbles_of};
 ghost use Rattle.sdb_scale.specs.Compact.{string};
 ghost use Rattle.trie_model.specs.Node.{IsNode, Node, optional_string, spelling};
-ghost use Rattle.trie_codec.specs.Gives.{Gives, bytes_in};
+ghost use Rattle.trie_codec.specs.Reads.{Reads, bytes_in};
 ghost use Rattle.trie_codec.specs.NodeParts.{parts_of};
 ghost use Rattle.trie_codec.specs.Places.{IsPart, LendsParts};
-ghost use Rattle.trie_codec.specs.Reading.{bitmap_at, branch_at, bytes_at, child_at, children_at, count_at, header_at, leaf_at, length_at, node_at, node_of_bytes, partial_at, reads_inline, string_at, value_at};
-ghost use Rattle.trie_codec.specs.Steps.{lowest_child_at};
+ghost use Rattle.trie_codec.specs.Reading.{first_bitmap, first_branch, first_bytes, first_child, first_children, first_count, first_header, first_leaf, first_length, first_node, node_of_bytes, first_partial, reads_inline, first_string, first_value};
+ghost use Rattle.trie_codec.specs.Steps.{first_lowest_child};
 
 use crate::fault::CodecFault;
 use crate::node_ref::NodeRef;
@@ -27,7 +27,7 @@ struct Header {
 
 // So many bytes, and what follows them.
 fn take_bytes(count: usize, bytes: &[u8]) -> Result<(&[u8], &[u8]), CodecFault>
-    ensures gives { Gives (λ x. (x.0.now, x.1.now)) result (bytes_at count bytes.now) }
+    ensures gives { Reads (λ x. (x.0.now, x.1.now)) result (first_bytes count bytes.now) }
     ensures len { IfOk result (λ x. length x.0.now ≡ count) }
     ensures front { IfOk result (λ x. IsPart bytes.entry x.0 (length x.1.now)) }
     ensures rest { IfOk result (λ x. IsPart bytes.entry x.1 0) }
@@ -39,9 +39,9 @@ fn take_bytes(count: usize, bytes: &[u8]) -> Result<(&[u8], &[u8]), CodecFault>
 }
 
 // A count of nibbles past the 63 that the first byte says, from the bytes that add to it.
-#[tactic(auto, unfolding(crate::specs::Reading::count_at))]
+#[tactic(auto, unfolding(crate::specs::Reading::first_count))]
 fn read_count(bytes: &[u8]) -> Result<(usize, &[u8]), CodecFault>
-    ensures gives { Gives (λ x. (x.0, x.1.now)) result (count_at 63 bytes.now) }
+    ensures gives { Reads (λ x. (x.0, x.1.now)) result (first_count 63 bytes.now) }
     ensures few { IfOk result (λ x. x.0 ≤ 2048) }
     ensures rest { IfOk result (λ x. IsPart bytes.entry x.1 0) }
 {
@@ -59,9 +59,9 @@ fn read_count(bytes: &[u8]) -> Result<(usize, &[u8]), CodecFault>
     Err(CodecFault::Short)
 }
 
-#[tactic(auto, unfolding(crate::specs::Reading::header_at))]
+#[tactic(auto, unfolding(crate::specs::Reading::first_header))]
 fn read_header(bytes: &[u8]) -> Result<(Header, &[u8]), CodecFault>
-    ensures gives { Gives (λ x. ((x.0.kind, x.0.nibbles), x.1.now)) result (header_at bytes.now) }
+    ensures gives { Reads (λ x. ((x.0.kind, x.0.nibbles), x.1.now)) result (first_header bytes.now) }
     ensures few { IfOk result (λ x. x.0.nibbles ≤ 2048) }
     ensures rest { IfOk result (λ x. IsPart bytes.entry x.1 0) }
 {
@@ -90,10 +90,10 @@ fn read_header(bytes: &[u8]) -> Result<(Header, &[u8]), CodecFault>
 }
 
 // The bytes of a partial key of so many nibbles.
-#[tactic(auto, unfolding(crate::specs::Reading::partial_at))]
+#[tactic(auto, unfolding(crate::specs::Reading::first_partial))]
 fn read_partial(nibbles: usize, bytes: &[u8]) -> Result<(&[u8], &[u8]), CodecFault>
     requires { nibbles ≤ 2048 }
-    ensures gives { Gives (λ x. (drop (nibbles % 2) (nibbles_of x.0.now), x.1.now)) result (partial_at nibbles bytes.now) }
+    ensures gives { Reads (λ x. (drop (nibbles % 2) (nibbles_of x.0.now), x.1.now)) result (first_partial nibbles bytes.now) }
     ensures whole { IfOk result (λ x. length x.0.now ≡ (nibbles + 1) / 2) }
     ensures rest { IfOk result (λ x. IsPart bytes.entry x.1 0) }
 {
@@ -109,9 +109,9 @@ fn read_partial(nibbles: usize, bytes: &[u8]) -> Result<(&[u8], &[u8]), CodecFau
 }
 
 // A compact number in its shortest mode.
-#[tactic(auto, unfolding(crate::specs::Reading::length_at))]
+#[tactic(auto, unfolding(crate::specs::Reading::first_length))]
 fn read_length(bytes: &[u8]) -> Result<(usize, &[u8]), CodecFault>
-    ensures gives { Gives (λ x. (x.0, x.1.now)) result (length_at bytes.now) }
+    ensures gives { Reads (λ x. (x.0, x.1.now)) result (first_length bytes.now) }
     ensures rest { IfOk result (λ x. IsPart bytes.entry x.1 0) }
 {
     let [first, rest @ ..] = bytes else {
@@ -143,10 +143,10 @@ fn read_length(bytes: &[u8]) -> Result<(usize, &[u8]), CodecFault>
     }
 }
 
-// A byte string behind its length.
-#[tactic(auto, unfolding(crate::specs::Reading::string_at))]
+// A byte string after its length.
+#[tactic(auto, unfolding(crate::specs::Reading::first_string))]
 fn read_string(bytes: &[u8]) -> Result<(&[u8], &[u8]), CodecFault>
-    ensures gives { Gives (λ x. (x.0.now, x.1.now)) result (string_at bytes.now) }
+    ensures gives { Reads (λ x. (x.0.now, x.1.now)) result (first_string bytes.now) }
     ensures string { IfOk result (λ x. IsPart bytes.entry x.0 (length x.1.now)) }
     ensures rest { IfOk result (λ x. IsPart bytes.entry x.1 0) }
 {
@@ -156,7 +156,7 @@ fn read_string(bytes: &[u8]) -> Result<(&[u8], &[u8]), CodecFault>
 
 // The value of a branch, which one of kind 3 has.
 fn read_value(kind: u8, bytes: &[u8]) -> Result<(Option<&[u8]>, &[u8]), CodecFault>
-    ensures gives { Gives (λ x. (bytes_in x.0, x.1.now)) result (value_at kind bytes.now) }
+    ensures gives { Reads (λ x. (bytes_in x.0, x.1.now)) result (first_value kind bytes.now) }
     ensures value { IfOk result (λ x. IfSome x.0 (λ v. IsPart bytes.entry v (length x.1.now))) }
     ensures rest { IfOk result (λ x. IsPart bytes.entry x.1 0) }
 {
@@ -170,7 +170,7 @@ fn read_value(kind: u8, bytes: &[u8]) -> Result<(Option<&[u8]>, &[u8]), CodecFau
 // The bitmap of a branch: one of kind 2, which has no value, has two children at least.
 #[tactic(auto, using(crate::proofs::Bits::bits_set_of_16))]
 fn read_bitmap(kind: u8, bytes: &[u8]) -> Result<(u16, &[u8]), CodecFault>
-    ensures gives { Gives (λ x. (x.0, x.1.now)) result (bitmap_at kind bytes.now) }
+    ensures gives { Reads (λ x. (x.0, x.1.now)) result (first_bitmap kind bytes.now) }
     ensures rest { IfOk result (λ x. IsPart bytes.entry x.1 0) }
 {
     let [low, high, rest @ ..] = bytes else {
@@ -205,7 +205,7 @@ fn reads_alone(depth: u8, bytes: &[u8]) -> bool
 // A child's Merkle value.
 #[cycle(inline)]
 fn read_child(depth: u8, bytes: &[u8]) -> Result<(&[u8], &[u8]), CodecFault>
-    ensures gives { Gives (λ x. (x.0.now, x.1.now)) result (child_at (reads_inline depth) bytes.now) }
+    ensures gives { Reads (λ x. (x.0.now, x.1.now)) result (first_child (reads_inline depth) bytes.now) }
     ensures small { IfOk result (λ x. length x.0.now ≤ 32) }
     ensures child { IfOk result (λ x. IsPart bytes.entry x.0 (length x.1.now)) }
     ensures took { IfOk result (λ x. length bytes.now ≡ length (string x.0.now) + length x.1.now) }
@@ -229,7 +229,7 @@ fn read_lowest_child(
     bits: u16,
     bytes: &[u8],
 ) -> Result<(Option<&[u8]>, &[u8]), CodecFault>
-    ensures gives { Gives (λ x. (bytes_in x.0, x.1.now)) result (lowest_child_at (reads_inline depth) bits bytes.now) }
+    ensures gives { Reads (λ x. (bytes_in x.0, x.1.now)) result (first_lowest_child (reads_inline depth) bits bytes.now) }
     ensures small { IfOk result (λ x. IfSome x.0 (λ c. length c.now ≤ 32)) }
     ensures child { IfOk result (λ x. IfSome x.0 (λ c. IsPart bytes.entry c (length x.1.now))) }
     ensures took { IfOk result (λ x. length bytes.now ≡ length (optional_string (bytes_in x.0)) + length x.1.now) }
@@ -252,7 +252,7 @@ struct Children<'a> {
 // The children of a bitmap's bits.
 #[cycle(inline)]
 fn read_children(depth: u8, bits: u16, bytes: &[u8]) -> Result<Children<'_>, CodecFault>
-    ensures gives { Gives (λ c. (map bytes_in c.found, c.rest.now)) result (children_at (reads_inline depth) 16 bits bytes.now) }
+    ensures gives { Reads (λ c. (map bytes_in c.found, c.rest.now)) result (first_children (reads_inline depth) 16 bits bytes.now) }
     ensures small { IfOk result (λ c. (i : ℕ) → IfSome (slice_index_or c.found i None) (λ s. length s.now ≤ 32)) }
     ensures children { IfOk result (λ c. (i : ℕ) → IfSome (slice_index_or c.found i None)
         (λ s. IsPart bytes.entry s (length (flat_map optional_string (map bytes_in (drop (i + 1) c.found))) + length c.rest.now))) }
@@ -273,7 +273,7 @@ fn read_children(depth: u8, bits: u16, bytes: &[u8]) -> Result<Children<'_>, Cod
     Ok(children)
 }
 
-// A leaf behind its partial key.
+// A leaf after its partial key.
 fn read_leaf<'a>(
     partial_len: usize,
     partial: &'a [u8],
@@ -281,7 +281,7 @@ fn read_leaf<'a>(
 ) -> Result<(NodeRef<'a>, &'a [u8]), CodecFault>
     requires short { partial_len ≤ 2048 }
     requires whole { length partial.now ≡ (partial_len + 1) / 2 }
-    ensures gives { Gives (λ x. (parts_of x.0, x.1.now)) result (leaf_at (drop (partial_len % 2) (nibbles_of partial.now)) bytes.now) }
+    ensures gives { Reads (λ x. (parts_of x.0, x.1.now)) result (first_leaf (drop (partial_len % 2) (nibbles_of partial.now)) bytes.now) }
     ensures parts { IfOk result (λ x. LendsParts bytes.entry x.0 (length x.1.now)) }
     ensures rest { IfOk result (λ x. IsPart bytes.entry x.1 0) }
 {
@@ -295,7 +295,7 @@ fn read_leaf<'a>(
     Ok((leaf, rest))
 }
 
-// A branch behind its partial key.
+// A branch after its partial key.
 #[cycle(inline)]
 fn read_branch<'a>(
     depth: u8,
@@ -305,8 +305,8 @@ fn read_branch<'a>(
 ) -> Result<(NodeRef<'a>, &'a [u8]), CodecFault>
     requires short { header.nibbles ≤ 2048 }
     requires whole { length partial.now ≡ (header.nibbles + 1) / 2 }
-    ensures gives { Gives (λ x. (parts_of x.0, x.1.now)) result
-        (branch_at (reads_inline depth) header.kind (drop (header.nibbles % 2) (nibbles_of partial.now)) bytes.now) }
+    ensures gives { Reads (λ x. (parts_of x.0, x.1.now)) result
+        (first_branch (reads_inline depth) header.kind (drop (header.nibbles % 2) (nibbles_of partial.now)) bytes.now) }
     ensures parts { IfOk result (λ x. LendsParts bytes.entry x.0 (length x.1.now)) }
     ensures rest { IfOk result (λ x. IsPart bytes.entry x.1 0) }
 {
@@ -324,9 +324,9 @@ fn read_branch<'a>(
 
 // A node, and what follows it. Inline children may be so many levels deep.
 #[cycle(inline)]
-#[tactic(auto, unfolding(crate::specs::Reading::node_at))]
+#[tactic(auto, unfolding(crate::specs::Reading::first_node))]
 fn read_node(depth: u8, bytes: &[u8]) -> Result<(NodeRef<'_>, &[u8]), CodecFault>
-    ensures gives { Gives (λ x. (parts_of x.0, x.1.now)) result (node_at (reads_inline depth) bytes.now) }
+    ensures gives { Reads (λ x. (parts_of x.0, x.1.now)) result (first_node (reads_inline depth) bytes.now) }
     ensures parts { IfOk result (λ x. LendsParts bytes.entry x.0 (length x.1.now)) }
     ensures rest { IfOk result (λ x. IsPart bytes.entry x.1 0) }
 {

@@ -1,12 +1,12 @@
 ghost use Rattle.std.specs.Prelude.{◌≡◌, ◌<◌, All, IfOk, IfSome, IsTrue, length};
-ghost use Rattle.trie_model.specs.Node.{IsPartial, IsShort};
+ghost use Rattle.trie_model.specs.Node.{IsPartial, HasCompactLength};
 
 use super::*;
 use sdb_base::{Bytes, Nibbles, OutOfMemory};
 use std::alloc::Global;
 use std::test::*;
 
-// Bytes that are no node, and their first fault. Where two faults could be named, the second stands behind it.
+// Bytes that are no node, and their first fault. Where two faults could be named, the second stands after it.
 const REFUSED: [(&[u8], CodecFault); 37] = [
     (b"", CodecFault::Short),
     (b"\x42\xaa", CodecFault::Short),
@@ -22,7 +22,7 @@ const REFUSED: [(&[u8], CodecFault); 37] = [
     (b"\xc0\x01\x00\x00\x80\x41\x00", CodecFault::Short),
     (b"\x20", CodecFault::BadHeader),
     (b"\x01", CodecFault::BadHeader),
-    // bytes behind what is no header
+    // bytes after what is no header
     (b"\x3f\x00", CodecFault::BadHeader),
     // 2,049 nibbles, though no byte follows
     (
@@ -35,7 +35,7 @@ const REFUSED: [(&[u8], CodecFault); 37] = [
         CodecFault::BadHeader,
     ),
     (b"\x41\xfa\x04\x01", CodecFault::BadPadding),
-    // the partial key is cut off behind its padding
+    // the partial key is cut off after its padding
     (b"\x43\xfa", CodecFault::BadPadding),
     (b"\x42\xaa\x01\x00", CodecFault::BadLength),
     (b"\x42\xaa\xfd\x00", CodecFault::BadLength),
@@ -47,7 +47,7 @@ const REFUSED: [(&[u8], CodecFault); 37] = [
     // no child, in a longer mode than it needs
     (b"\xc0\x01\x00\x00\x01\x00", CodecFault::BadLength),
     (b"\x80\x00\x00", CodecFault::BadBitmap),
-    // no value and no child behind the bitmap
+    // no value and no child after the bitmap
     (b"\xc0\x00\x00", CodecFault::BadBitmap),
     (b"\x80\x01\x00", CodecFault::BadBitmap),
     (b"\x81\x00\x03\x00\x00", CodecFault::BadChild),
@@ -55,12 +55,12 @@ const REFUSED: [(&[u8], CodecFault); 37] = [
     (b"\xc0\x01\x00\x00\x84", CodecFault::BadChild),
     (b"\xc0\x01\x00\x00\x04\x00", CodecFault::BadChild),
     (b"\xc0\x01\x00\x00\x04\x20", CodecFault::BadChild),
-    // a byte behind a child in a child
+    // a byte after a child in a child
     (
         b"\xc0\x01\x00\x00\x28\xc0\x01\x00\x00\x14\x41\x0b\x04\x02\x99",
         CodecFault::BadChild,
     ),
-    // a short child with a byte behind the node
+    // a short child with a byte after the node
     (b"\xc0\x01\x00\x00\x04\x41\x99", CodecFault::BadChild),
     (b"\x00\x00", CodecFault::Trailing),
     (b"\x42\xaa\x04\x01\x99", CodecFault::Trailing),
@@ -154,7 +154,7 @@ fn is_partial(nibbles: &[u8]) -> bool
 // The children at these nibbles; none where one can't be there.
 fn child_list(alloc: Global, children: &[(u8, &[u8])]) -> Result<Option<ChildList>, OutOfMemory>
     ensures sixteen { IfOk result (λ found. IfSome found (λ c. length c ≡ 16)) }
-    ensures short { IfOk result (λ found. IfSome found (λ c. All (λ child. IfSome child IsShort) c)) }
+    ensures short { IfOk result (λ found. IfSome found (λ c. All (λ child. IfSome child HasCompactLength) c)) }
 {
     let mut found = ChildList::new();
     for (nibble, merkle_value) in children {

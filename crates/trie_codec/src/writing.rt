@@ -3,7 +3,7 @@ ghost use Rattle.std.specs.Int.{w16, to_le_bytes};
 ghost use Rattle.std.specs.List.{flat_map};
 ghost use Rattle.sdb_scale.specs.Compact.{string};
 ghost use Rattle.trie_model.specs.Nibbles.{packed, paired};
-ghost use Rattle.trie_model.specs.Node.{IsPartial, IsShort, IsSpellable, bitmap, branch_kind, has_child, header, optional_string, spelling, spelled};
+ghost use Rattle.trie_model.specs.Node.{IsPartial, HasCompactLength, IsSpellable, bitmap, branch_kind, has_child, header, optional_string, spelling, spelled};
 ghost use Rattle.trie_codec.specs.Parts.{node_of};
 
 use crate::plain::Plain;
@@ -34,7 +34,7 @@ pub fn encode(alloc: Global, node: &Plain) -> Result<Bytes, OutOfMemory>
 // Room for a node's spelling, so that it need not grow where children are no longer than hashes.
 fn room_of(node: &Plain, is_branch: bool) -> usize
     requires partial { length node.now.partial ≤ 2048 }
-    requires value { IfSome node.now.value IsShort }
+    requires value { IfSome node.now.value HasCompactLength }
 {
     let value = match &node.value {
         None => 0,
@@ -65,8 +65,8 @@ fn put_leaf(out: &mut Vec<u8>, partial: &[u8], value: &[u8]) -> Result<(), Alloc
 // Appends a branch.
 fn put_branch(out: &mut Vec<u8>, node: &Plain) -> Result<(), AllocError>
     requires partial { IsPartial node.now.partial }
-    requires value { IfSome node.now.value IsShort }
-    requires children { All (λ c. IfSome c IsShort) node.now.children }
+    requires value { IfSome node.now.value HasCompactLength }
+    requires children { All (λ c. IfSome c HasCompactLength) node.now.children }
     requires sixteen { length node.now.children ≡ 16 }
     ensures { OnOk result (out.new.items ≡ out.old.items ++ spelled true node.now.value (node_of node.now)) }
 {
@@ -138,7 +138,7 @@ fn bitmap_of(children: &[Option<Bytes>]) -> u16
 
 // Appends the Merkle values of the children that there are.
 fn put_children(out: &mut Vec<u8>, children: &[Option<Bytes>]) -> Result<(), AllocError>
-    requires { All (λ c. IfSome c IsShort) children.now }
+    requires { All (λ c. IfSome c HasCompactLength) children.now }
     ensures { OnOk result (out.new.items ≡ out.old.items ++ flat_map optional_string children.now) }
 {
     for child in children {
@@ -149,7 +149,7 @@ fn put_children(out: &mut Vec<u8>, children: &[Option<Bytes>]) -> Result<(), All
 
 // Appends a part as a byte string, if it is there.
 fn put_optional(out: &mut Vec<u8>, part: &Option<Bytes>) -> Result<(), AllocError>
-    requires { IfSome part.now IsShort }
+    requires { IfSome part.now HasCompactLength }
     ensures { OnOk result (out.new.items ≡ out.old.items ++ optional_string part.now) }
 {
     match part {

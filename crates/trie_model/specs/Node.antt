@@ -77,21 +77,21 @@ IsShaped n = (n ≡ empty_node) ⊎ ((1 ≤ count_by is_some n.children + (if is
     × (has_child n.children ≡ true → 2 ≤ count_by is_some n.children + (if is_some n.value then 1 else 0)))
 
 -- not too many for a compact length
-abbrev pub IsShort : List ℕ → Type 0
-IsShort bytes = length bytes < 2 ^ 30
+abbrev pub HasCompactLength : List ℕ → Type 0
+HasCompactLength bytes = length bytes < 2 ^ 30
 
 -- bytes, not too many for a compact length
 abbrev pub IsText : Option (List ℕ) → Type 0
 IsText None = Unit {0}
-IsText (Some bytes) = IsShort bytes × All (λ b. b < 256) bytes
+IsText (Some bytes) = HasCompactLength bytes × All (λ b. b < 256) bytes
 
 -- Parts that can be spelled: nibbles that are not too many, texts that are not too long for a compact length, and a
 -- place for each of the sixteen children.
 pub record IsSpellable (n : Node) : Type 0 where
   pub partial : IsPartial n.partial
-  pub value : IfSome n.value IsShort
+  pub value : IfSome n.value HasCompactLength
   pub sixteen : length n.children ≡ 16
-  pub children : All (λ c. IfSome c IsShort) n.children
+  pub children : All (λ c. IfSome c HasCompactLength) n.children
 
 -- the parts of a node, where P says of which nodes an inline child may be the spelling
 pub record AreParts (P : Node → Type 0) (n : Node) : Type 0 where

@@ -39,19 +39,19 @@ abbrev pub value_here : List Suffix → Option (List ℕ)
 value_here [] = None
 value_here (s ∷ ss) = if length s.0 == 0 then Some s.1 else value_here ss
 
-abbrev pub sixteen : List ℕ
-sixteen = 0 ∷ 1 ∷ 2 ∷ 3 ∷ 4 ∷ 5 ∷ 6 ∷ 7 ∷ 8 ∷ 9 ∷ 10 ∷ 11 ∷ 12 ∷ 13 ∷ 14 ∷ 15 ∷ []
+abbrev pub every_nibble : List ℕ
+every_nibble = 0 ∷ 1 ∷ 2 ∷ 3 ∷ 4 ∷ 5 ∷ 6 ∷ 7 ∷ 8 ∷ 9 ∷ 10 ∷ 11 ∷ 12 ∷ 13 ∷ 14 ∷ 15 ∷ []
 
 -- the Merkle value of the node over some suffixes, if there are any
 abbrev pub child_value : (List Suffix → Node) → List Suffix → Option (List ℕ)
 child_value node [] = None
 child_value node (s ∷ ss) = Some (merkle_value (spelling (node (s ∷ ss))))
 
--- suffixes behind a prefix
-abbrev pub behind : List ℕ → List Suffix → List Suffix
-behind prefix suffixes = map (λ (s : Suffix). (prefix ++ s.0, s.1)) suffixes
+-- suffixes with a prefix put before them
+abbrev pub with_prefix : List ℕ → List Suffix → List Suffix
+with_prefix prefix suffixes = map (λ (s : Suffix). (prefix ++ s.0, s.1)) suffixes
 
--- a node's own value, behind no nibble
+-- a node's own value, as the suffix of no nibbles
 abbrev pub own_value : Option (List ℕ) → List Suffix
 own_value None = []
 own_value (Some value) = ([], value) ∷ []
@@ -60,13 +60,13 @@ own_value (Some value) = ([], value) ∷ []
 -- the prefix, and its child i the node over the suffixes that go on with the prefix and i. The number bounds the
 -- depth.
 unfoldable pub node_over : ℕ → List Suffix → Node
-node_over zero suffixes = record { partial = []; value = None; children = map (λ _. None) sixteen }
+node_over zero suffixes = record { partial = []; value = None; children = map (λ _. None) every_nibble }
 node_over (suc depth) suffixes =
     let prefix = common_prefix suffixes in
     record {
       partial = prefix;
       value = value_here (below prefix suffixes);
-      children = map (λ i. child_value (node_over depth) (below (prefix ++ i ∷ []) suffixes)) sixteen;
+      children = map (λ i. child_value (node_over depth) (below (prefix ++ i ∷ []) suffixes)) every_nibble;
     }
 
 -- what is read off the node over some suffixes and off the nodes below it: the nibbles on the way to each value, and the
@@ -75,8 +75,8 @@ unfoldable pub read_off : ℕ → List Suffix → List Suffix
 read_off zero suffixes = []
 read_off (suc depth) suffixes =
     let n = node_over (suc depth) suffixes in
-    behind n.partial (own_value n.value
-    ++ flat_map (λ i. behind (i ∷ []) (read_off depth (below (n.partial ++ i ∷ []) suffixes))) sixteen)
+    with_prefix n.partial (own_value n.value
+    ++ flat_map (λ i. with_prefix (i ∷ []) (read_off depth (below (n.partial ++ i ∷ []) suffixes))) every_nibble)
 
 -- as many levels as the longest suffix has nibbles, and one: each level takes a nibble away
 abbrev pub levels_of : List Suffix → ℕ

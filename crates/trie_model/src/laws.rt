@@ -3,7 +3,9 @@ ghost use Rattle.std.specs.Str.{bytes_eq};
 ghost use Rattle.std.specs.FinMap as map;
 ghost use Rattle.sdb_base.specs.declared.Change.{Change};
 ghost use Rattle.trie_model.specs.State.{State, apply, no_keys, with_key};
+ghost use Rattle.sdb_base.specs.declared.Block.{Block};
 ghost use Rattle.sdb_base.specs.Nibbles.{nibbles_of};
+ghost use Rattle.trie_model.specs.Limits.{BlockIsWithin, StateIsWithin};
 ghost use Rattle.trie_model.specs.Node.{empty_node, header, spelling};
 ghost use Rattle.trie_model.specs.Trie.{node_over, root_node};
 
@@ -18,6 +20,13 @@ pub fn changes_apply_in_order()
 /// States that answer alike have one trie, whichever changes made them.
 pub fn equal_states_have_one_trie()
     ensures { (m n : State) → ((key : List ℕ) → map.get m key ≡ map.get n key) → root_node m ≡ root_node n }
+{}
+
+/// Blocks within the limits keep states within them.
+pub fn limits_last()
+    ensures empty { StateIsWithin no_keys }
+    ensures next { (m : State) (block : Block) → StateIsWithin m → BlockIsWithin block
+        → StateIsWithin (apply m block.changes) }
 {}
 
 /// Nodes that the definitions give, by computing: the header of each length at which it grows, the node of the empty

@@ -9,4 +9,4 @@
 
 mod laws;
 
-pub use laws::{changes_apply_in_order, equal_states_have_one_trie, known_nodes};
+pub use laws::{changes_apply_in_order, equal_states_have_one_trie, known_nodes, limits_last};

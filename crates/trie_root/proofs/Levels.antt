@@ -3,7 +3,7 @@ use Rattle.std.proofs.Common.{◌≡◌, ℕ, zero, suc, ◌+◌, ◌≤◌, ◌
 use Rattle.std.specs.List.{cons_option}
 use Rattle.std.specs.Option.{option_map}
 use Rattle.trie_model.specs.Node.{Node, merkle_value, spelling}
-use Rattle.trie_model.specs.Trie.{Suffix, after_prefix, below, child_value, common_prefix, levels_of, node_over, sixteen, value_here}
+use Rattle.trie_model.specs.Trie.{Suffix, after_prefix, below, child_value, common_prefix, levels_of, node_over, every_nibble, value_here}
 
 pub length-after_prefix : (p ns rest : List ℕ) → after_prefix p ns ≡ Some rest → length p + length rest ≡ length ns
 length-after_prefix [] ns rest e = let same : ns ≡ rest = cc in rw (same) (omega arith)
@@ -56,4 +56,4 @@ same_node (suc m) (suc n) ss h k =
     let with_children : List (Option (List ℕ)) → Node = λ cs. record { partial = p; value = value_here (below p ss); children = cs } in
     ap with_children (map_alike (λ i. child_value (node_over m) (below (p ++ i ∷ []) ss)) (λ i. child_value (node_over n) (below (p ++ i ∷ []) ss))
     (λ i. same_child (node_over m) (node_over n) (below (p ++ i ∷ []) ss) (length (p ++ i ∷ [])) (levels_of ss) (levels_below (p ++ i ∷ []) ss)
-    (λ fits. same_node m n (below (p ++ i ∷ []) ss) (omega (arith, length_longer p i)) (omega (arith, length_longer p i)))) sixteen)
+    (λ fits. same_node m n (below (p ++ i ∷ []) ss) (omega (arith, length_longer p i)) (omega (arith, length_longer p i)))) every_nibble)

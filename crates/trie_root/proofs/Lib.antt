@@ -7,7 +7,7 @@ pub mod Levels
 pub mod Nibble
 pub mod OneLevel
 pub mod OneNode
-pub mod PairRuns
+pub mod PairGroups
 pub mod Prefixes
 pub mod ReadOff
 pub mod ReadOffNibbles

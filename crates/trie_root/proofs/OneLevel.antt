@@ -1,8 +1,8 @@
--- The node over some suffixes, and its children over those behind what all share.
+-- The node over some suffixes, and its children over those after what all share.
 use Rattle.std.proofs.Common.{◌≡◌, ℕ, suc, List, [], ◌∷◌, ◌++◌, length, Option, refl, ap, ◌∙◌, arith}
 use Rattle.trie_model.specs.Node.{Node}
-use Rattle.trie_model.specs.Trie.{Suffix, below, child_value, common_prefix, levels_of, node_of_all, node_over, sixteen, value_here}
-use Rattle.trie_root.specs.Runs.{child_below, children_over}
+use Rattle.trie_model.specs.Trie.{Suffix, below, child_value, common_prefix, levels_of, node_of_all, node_over, every_nibble, value_here}
+use Rattle.trie_root.specs.Groups.{child_below, children_over}
 use Rattle.trie_root.proofs.Levels.{levels_below, map_alike, same_child, same_node}
 use Rattle.trie_root.proofs.Prefixes.{below-append}
 
@@ -29,4 +29,4 @@ one_level ss =
     let p = common_prefix ss in
     let with_children : List (Option (List ℕ)) → Node = λ cs. record { partial = p; value = value_here (below p ss); children = cs } in
     same_node n (suc n) ss (omega arith) (omega arith)
-    ∙ ap with_children (map_alike (λ i. child_value (node_over n) (below (p ++ i ∷ []) ss)) (child_below (below p ss)) (child_further p ss) sixteen)
+    ∙ ap with_children (map_alike (λ i. child_value (node_over n) (below (p ++ i ∷ []) ss)) (child_below (below p ss)) (child_further p ss) every_nibble)

@@ -5,7 +5,7 @@ use Rattle.std.specs.Cmp.Lexicographic.{slice_cmp}
 use Rattle.std.specs.FinMap.{is_sorted}
 use Rattle.std.specs.List.{AllByRecursion, flat_map}
 use Rattle.std.proofs.lemmas.Bool.Decides.{eqb_tells}
-use Rattle.trie_model.specs.Trie.{Suffix, after_prefix, behind, below, common_prefix, levels_of, node_over, own_value, read_off, sixteen, value_here}
+use Rattle.trie_model.specs.Trie.{Suffix, after_prefix, with_prefix, below, common_prefix, levels_of, node_over, own_value, read_off, every_nibble, value_here}
 use Rattle.trie_root.proofs.Levels.{levels_above_none, levels_below}
 use Rattle.trie_root.proofs.Prefixes.{Begins, below-append, begins_both, begins_itself}
 use Rattle.trie_root.proofs.ReadOffOrder.{all_below, is_sorted-nibble}
@@ -27,18 +27,18 @@ put_back (x ∷ p) (n ∷ ns) rest e =
       | inr f ↦ let other : eqb x n ≡ false = f.0 in let not : None ≡ Some rest = rw other at e in absurd cc
     ]
 
--- behind a prefix that all share stands what stood there
-pub behind-below : (p : List ℕ) (ss : List Suffix) → Begins p (common_prefix ss) → behind p (below p ss) ≡ ss
-behind-below p [] h = refl
-behind-below p (s ∷ []) h =
+-- after a prefix that all share stands what stood there
+pub with_prefix-below : (p : List ℕ) (ss : List Suffix) → Begins p (common_prefix ss) → with_prefix p (below p ss) ≡ ss
+with_prefix-below p [] h = refl
+with_prefix-below p (s ∷ []) h =
     let one : after_prefix p s.0 ≡ Some (drop (length p) s.0) = h.rest in
     let back : p ++ drop (length p) s.0 ≡ s.0 = put_back p s.0 (drop (length p) s.0) one in
     rw one (ap (λ (ns : List ℕ). (ns, s.1) ∷ []) back)
-behind-below p (s ∷ (t ∷ ss)) h =
+with_prefix-below p (s ∷ (t ∷ ss)) h =
     let begin : Begins p s.0 × Begins p (common_prefix (t ∷ ss)) = begins_both p s.0 (common_prefix (t ∷ ss)) h in
     let one : after_prefix p s.0 ≡ Some (drop (length p) s.0) = begin.0.rest in
     let back : p ++ drop (length p) s.0 ≡ s.0 = put_back p s.0 (drop (length p) s.0) one in
-    let others : behind p (below p (t ∷ ss)) ≡ t ∷ ss = behind-below p (t ∷ ss) begin.1 in
+    let others : with_prefix p (below p (t ∷ ss)) ≡ t ∷ ss = with_prefix-below p (t ∷ ss) begin.1 in
     rw (one, others) (ap (λ (ns : List ℕ). (ns, s.1) ∷ (t ∷ ss)) back)
 
 read_off_nothing : (d : ℕ) → read_off d [] ≡ []
@@ -47,7 +47,7 @@ read_off_nothing zero = refl
 read_off_nothing (suc d) = let none : read_off d [] ≡ [] = read_off_nothing d in rw none
 
 read_off_parts : (d : ℕ) (ss : List Suffix) → let p = common_prefix ss in
-    read_off (suc d) ss ≡ behind p (own_value (value_here (below p ss)) ++ flat_map (λ i. behind (i ∷ []) (read_off d (below (p ++ i ∷ []) ss))) sixteen)
+    read_off (suc d) ss ≡ with_prefix p (own_value (value_here (below p ss)) ++ flat_map (λ i. with_prefix (i ∷ []) (read_off d (below (p ++ i ∷ []) ss))) every_nibble)
 unfolding read_off node_over
 read_off_parts d ss = refl
 
@@ -71,15 +71,15 @@ read_off_all (suc d) ss fits s a =
     let p = common_prefix ss in
     let sorted : T (is_sorted (slice_cmp nat_cmp) (below p ss)) = is_sorted-below ss s in
     let nibbles : AllByRecursion InNibbles (below p ss) = all_below InNibbles shorter_in_nibbles p ss a in
-    let each : (i : ℕ) → behind (i ∷ []) (read_off d (below (p ++ i ∷ []) ss)) ≡ going_on (below p ss) i = λ i.
-    ap (behind (i ∷ [])) (ap (read_off d) (below-append p (i ∷ []) ss) ∙ child d (below p ss) i (fewer_levels d p i ss fits)
+    let each : (i : ℕ) → with_prefix (i ∷ []) (read_off d (below (p ++ i ∷ []) ss)) ≡ going_on (below p ss) i = λ i.
+    ap (with_prefix (i ∷ [])) (ap (read_off d) (below-append p (i ∷ []) ss) ∙ child d (below p ss) i (fewer_levels d p i ss fits)
     (λ fewer. read_off_all d (below (i ∷ []) (below p ss)) fewer (is_sorted-nibble i (below p ss) sorted)
     (all_below InNibbles shorter_in_nibbles (i ∷ []) (below p ss) nibbles))) in
     read_off_parts d ss
-    ∙ ap (λ (ts : List Suffix). behind p (own_value (value_here (below p ss)) ++ ts))
-    (flat_map_alike (λ i. behind (i ∷ []) (read_off d (below (p ++ i ∷ []) ss))) (going_on (below p ss)) each sixteen)
-    ∙ ap (behind p) (parts_in_order (below p ss) sorted nibbles)
-    ∙ behind-below p ss (begins_itself p)
+    ∙ ap (λ (ts : List Suffix). with_prefix p (own_value (value_here (below p ss)) ++ ts))
+    (flat_map_alike (λ i. with_prefix (i ∷ []) (read_off d (below (p ++ i ∷ []) ss))) (going_on (below p ss)) each every_nibble)
+    ∙ ap (with_prefix p) (parts_in_order (below p ss) sorted nibbles)
+    ∙ with_prefix-below p ss (begins_itself p)
   where
     child : (d : ℕ) (ts : List Suffix) (i : ℕ) → (below (i ∷ []) ts ≡ []) ⊎ (levels_of (below (i ∷ []) ts) ≤ d)
         → (levels_of (below (i ∷ []) ts) ≤ d → read_off d (below (i ∷ []) ts) ≡ below (i ∷ []) ts)

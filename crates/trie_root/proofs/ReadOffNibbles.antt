@@ -5,7 +5,7 @@ use Rattle.std.specs.Cmp.Lexicographic.{slice_cmp}
 use Rattle.std.specs.FinMap.{is_sorted}
 use Rattle.std.specs.List.{AllByRecursion, flat_map}
 use Rattle.std.proofs.lemmas.Bool.{cases_lt}
-use Rattle.trie_model.specs.Trie.{Suffix, behind, below, own_value, sixteen, value_here}
+use Rattle.trie_model.specs.Trie.{Suffix, with_prefix, below, own_value, every_nibble, value_here}
 use Rattle.trie_root.proofs.Ends.{below_all, first_of_and, second_of_and}
 use Rattle.trie_root.proofs.ReadOffOrder.{StaysShorter}
 use Rattle.trie_root.proofs.Rows.{none_with_lower, unlike}
@@ -25,7 +25,7 @@ from i (suc k) = i ∷ from (suc i) k
 
 -- the suffixes that go on with a nibble, with it
 abbrev pub going_on : List Suffix → ℕ → List Suffix
-going_on ss i = behind (i ∷ []) (below (i ∷ []) ss)
+going_on ss i = with_prefix (i ∷ []) (below (i ∷ []) ss)
 
 not_empty : (n : ℕ) → eqb (suc n) 0 ≡ false
 not_empty n = unlike (suc n) 0 (λ e. omega arith)
@@ -53,7 +53,7 @@ front n i (suc k) ns v ss b low high =
     elim (cases_lt i n) [
       | inl lower ↦
           let other : going_on ((n ∷ ns, v) ∷ ss) i ≡ going_on ss i = going_on_other n i ns v ss (λ e. omega arith) in
-          let none : going_on ss i ≡ [] = ap (behind (i ∷ [])) (none_with_lower i n ns ss lower b) in
+          let none : going_on ss i ≡ [] = ap (with_prefix (i ∷ [])) (none_with_lower i n ns ss lower b) in
           let rest : flat_map (going_on ((n ∷ ns, v) ∷ ss)) (from (suc i) k) ≡ (n ∷ ns, v) ∷ flat_map (going_on ss) (from (suc i) k) = front n (suc i) k ns v ss b lower (omega arith) in
           rw (other, none) rest
       | inr reached ↦
@@ -77,7 +77,7 @@ nibble_by_nibble x ((ns, v) ∷ ss) b s a = next x ns v ss (first_of_and _ (belo
 
 -- sorted suffixes of nibbles are the one of no nibbles, and those that go on with each nibble
 pub parts_in_order : (ss : List Suffix) → T (is_sorted (slice_cmp nat_cmp) ss) → AllByRecursion InNibbles ss
-    → own_value (value_here ss) ++ flat_map (going_on ss) sixteen ≡ ss
+    → own_value (value_here ss) ++ flat_map (going_on ss) every_nibble ≡ ss
 parts_in_order [] s a = refl
 parts_in_order (([], v) ∷ ss) s a =
     ap (λ (ts : List Suffix). ([], v) ∷ ts) (nibble_by_nibble [] ss (first_of_and _ (is_sorted (slice_cmp nat_cmp) ss) s) (second_of_and (below_all [] ss) _ s) a.1)
@@ -85,6 +85,6 @@ parts_in_order ((n ∷ ns, v) ∷ ss) s a =
     let least : T (below_all (n ∷ ns) ss) = first_of_and _ (is_sorted (slice_cmp nat_cmp) ss) s in
     let longer : eqb (suc (length ns)) 0 ≡ false = not_empty (length ns) in
     let none : value_here ((n ∷ ns, v) ∷ ss) ≡ None = value_first (n ∷ ns, v) ss s ∙ ap (λ b. cond b (Some v) None) longer in
-    ap (λ (o : Option (List ℕ)). own_value o ++ flat_map (going_on ((n ∷ ns, v) ∷ ss)) sixteen) none
+    ap (λ (o : Option (List ℕ)). own_value o ++ flat_map (going_on ((n ∷ ns, v) ∷ ss)) every_nibble) none
     ∙ front n 0 16 ns v ss least (omega arith) (omega (arith, a.0.0))
     ∙ ap (λ (ts : List Suffix). (n ∷ ns, v) ∷ ts) (nibble_by_nibble (n ∷ ns) ss least (second_of_and (below_all (n ∷ ns) ss) _ s) a.1)

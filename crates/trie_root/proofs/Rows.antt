@@ -15,12 +15,12 @@ use Rattle.trie_root.proofs.Prefixes.{without}
 -- where in a list the suffixes stand that go on with a nibble
 pub record Row (i : ℕ) (ss : List Suffix) : Type 0 where
   pub front : List Suffix
-  pub run : List Suffix
+  pub middle : List Suffix
   pub back : List Suffix
-  pub parts : ss ≡ front ++ (run ++ back)
+  pub parts : ss ≡ front ++ (middle ++ back)
   pub before : below (i ∷ []) front ≡ []
-  pub inside : below (i ∷ []) run ≡ map (without 1) run
-  pub behind : below (i ∷ []) back ≡ []
+  pub inside : below (i ∷ []) middle ≡ map (without 1) middle
+  pub after : below (i ∷ []) back ≡ []
 
 pub unlike : (i n : ℕ) → (i ≡ n → ⊥) → eqb i n ≡ false
 unlike i n h = elim (eqb_tells i n) [ inl t ↦ absurd (h t.1) | inr f ↦ f.0 ]
@@ -41,34 +41,34 @@ none_with_lower i n ns (s ∷ ss) h b =
 passed : (i : ℕ) (s : Suffix) (ss : List Suffix) → after_prefix (i ∷ []) s.0 ≡ None → Row i ss → Row i (s ∷ ss)
 passed i s ss none r = record {
   front = s ∷ r.front;
-  run = r.run;
+  middle = r.middle;
   back = r.back;
   parts = ap (λ (t : List Suffix). s ∷ t) r.parts;
   before = rw (none, r.before);
   inside = r.inside;
-  behind = r.behind;
+  after = r.after;
 }
 
 begun : (i n : ℕ) (ks v : List ℕ) (ss : List Suffix) (r : Row i ss) → eqb i n ≡ true → r.front ≡ [] → Row i ((n ∷ ks, v) ∷ ss)
 begun i n ks v ss r same none = record {
   front = [];
-  run = (n ∷ ks, v) ∷ r.run;
+  middle = (n ∷ ks, v) ∷ r.middle;
   back = r.back;
-  parts = ap (λ (t : List Suffix). (n ∷ ks, v) ∷ t) (r.parts ∙ ap (λ (t : List Suffix). t ++ (r.run ++ r.back)) none);
+  parts = ap (λ (t : List Suffix). (n ∷ ks, v) ∷ t) (r.parts ∙ ap (λ (t : List Suffix). t ++ (r.middle ++ r.back)) none);
   before = refl;
   inside = rw (same, r.inside);
-  behind = r.behind;
+  after = r.after;
 }
 
 ended : (i n : ℕ) (ns v : List ℕ) (ss : List Suffix) → i < n → T (below_all (n ∷ ns) ss) → Row i ((n ∷ ns, v) ∷ ss)
 ended i n ns v ss h b = let other : eqb i n ≡ false = unlike i n (λ s. omega arith) in record {
   front = [];
-  run = [];
+  middle = [];
   back = (n ∷ ns, v) ∷ ss;
   parts = refl;
   before = refl;
   inside = refl;
-  behind = rw (other, none_with_lower i n ns ss h b);
+  after = rw (other, none_with_lower i n ns ss h b);
 }
 
 -- a row at the very front, as what follows a suffix with the nibble has
@@ -82,7 +82,7 @@ here_next i ns (m ∷ ms) v ss (inl lower) b r = (ended i m ms v ss lower b, ref
 here_next i ns (m ∷ ms) v ss (inr same) b r = (begun i m ms v ss r.0 (eq-eqb i m same.0) r.1, refl)
 
 row_here : (i : ℕ) (ns : List ℕ) (ss : List Suffix) → T (below_all (i ∷ ns) ss) → T (is_sorted (slice_cmp nat_cmp) ss) → AtFront i ss
-row_here i ns [] b s = (record { front = []; run = []; back = []; parts = refl; before = refl; inside = refl; behind = refl }, refl)
+row_here i ns [] b s = (record { front = []; middle = []; back = []; parts = refl; before = refl; inside = refl; after = refl }, refl)
 row_here i ns (t ∷ ts) b s =
     here_next i ns t.0 t.1 ts (at_most_from_lt (i ∷ ns) t.0 (first_of_and _ (below_all (i ∷ ns) ts) b))
     (first_of_and (below_all t.0 ts) (is_sorted (slice_cmp nat_cmp) ts) s)
@@ -103,7 +103,7 @@ row_next i (n ∷ ns) v ss b s r =
     ]
 
 pub row : (i : ℕ) (ss : List Suffix) → T (is_sorted (slice_cmp nat_cmp) ss) → Row i ss
-row i [] s = record { front = []; run = []; back = []; parts = refl; before = refl; inside = refl; behind = refl }
+row i [] s = record { front = []; middle = []; back = []; parts = refl; before = refl; inside = refl; after = refl }
 row i (t ∷ ts) s =
     let others : T (is_sorted (slice_cmp nat_cmp) ts) = second_of_and (below_all t.0 ts) (is_sorted (slice_cmp nat_cmp) ts) s in
     row_next i t.0 t.1 ts (first_of_and (below_all t.0 ts) (is_sorted (slice_cmp nat_cmp) ts) s) others (row i ts others)
@@ -112,7 +112,7 @@ pub joined : (q : List ℕ) (xs ys : List Suffix) → below q (xs ++ ys) ≡ bel
 joined q xs ys = filter_map-append (λ (s : Suffix). option_map (λ (rest : List ℕ). (rest, s.1)) (after_prefix q s.0)) xs ys
 
 -- below a nibble stands the row, without the nibble
-pub below_row : (i : ℕ) (ss : List Suffix) (r : Row i ss) → below (i ∷ []) ss ≡ map (without 1) r.run
+pub below_row : (i : ℕ) (ss : List Suffix) (r : Row i ss) → below (i ∷ []) ss ≡ map (without 1) r.middle
 below_row i ss r =
     ap (below (i ∷ [])) r.parts
-    ∙ rw (joined (i ∷ []) r.front (r.run ++ r.back), joined (i ∷ []) r.run r.back, r.before, r.inside, r.behind) (append-nil (map (without 1) r.run))
+    ∙ rw (joined (i ∷ []) r.front (r.middle ++ r.back), joined (i ∷ []) r.middle r.back, r.before, r.inside, r.after) (append-nil (map (without 1) r.middle))

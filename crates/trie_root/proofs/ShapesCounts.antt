@@ -6,7 +6,7 @@ use Rattle.std.proofs.lemmas.Bool.{cases_eq, cases_lt}
 use Rattle.std.proofs.lemmas.Bool.Decides.{leb_tells}
 use Rattle.std.proofs.lemmas.List.Sums.{sum_by-cons}
 use Rattle.trie_model.specs.Node.{Node, branch_kind, has_child, header, spelled, spelling}
-use Rattle.trie_model.specs.Trie.{sixteen}
+use Rattle.trie_model.specs.Trie.{every_nibble}
 use Rattle.trie_root.proofs.ReadOffNibbles.{from}
 
 -- one where there is something
@@ -47,7 +47,7 @@ two_among f i (suc k) n m low rise high e g =
 
 -- two nibbles at which there is something are two of the sixteen
 pub two_children : (f : ℕ → Option (List ℕ)) (n m : ℕ) → n < 16 → m < 16 → (n ≡ m → ⊥) → is_some (f n) ≡ true → is_some (f m) ≡ true
-    → 2 ≤ count_by is_some (map f sixteen)
+    → 2 ≤ count_by is_some (map f every_nibble)
 two_children f n m h k differ e g =
     elim (cases_lt n m) [
       | inl lower ↦ two_among f 0 16 n m (omega arith) lower (omega arith) e g

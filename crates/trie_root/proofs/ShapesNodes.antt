@@ -6,7 +6,7 @@ use Rattle.std.specs.FinMap.{is_sorted}
 use Rattle.std.specs.List.{AllByRecursion}
 use Rattle.std.proofs.lemmas.List.Elements.{All-from_recursion, All-nil, All-tail, recursion_from_All}
 use Rattle.trie_model.specs.Node.{IsChild, IsNodeWithin, IsPartial, IsText, Node, IsShaped, merkle_value, spelling}
-use Rattle.trie_model.specs.Trie.{Suffix, below, child_value, common, common_prefix, levels_of, node_over, sixteen, value_here}
+use Rattle.trie_model.specs.Trie.{Suffix, below, child_value, common, common_prefix, levels_of, node_over, every_nibble, value_here}
 use Rattle.trie_root.specs.Suffixes.{IsSuffix}
 use Rattle.trie_root.proofs.Levels.{levels_above_none}
 use Rattle.trie_root.proofs.Prefixes.{below-append}
@@ -118,7 +118,7 @@ node_within (suc d) ss fits s a =
       partial = is_partial ss a;
       value = value_text (below p ss) rest;
       sixteen = refl;
-      texts = All-from_recursion IsText (map f sixteen) (all_map IsText f (λ i. (each i).0) sixteen);
-      children = All-from_recursion (IsChild (IsNodeWithin d)) (map f sixteen) (all_map (IsChild (IsNodeWithin d)) f (λ i. (each i).1) sixteen);
+      texts = All-from_recursion IsText (map f every_nibble) (all_map IsText f (λ i. (each i).0) every_nibble);
+      children = All-from_recursion (IsChild (IsNodeWithin d)) (map f every_nibble) (all_map (IsChild (IsNodeWithin d)) f (λ i. (each i).1) every_nibble);
       shaped = shape d ss s a;
     }

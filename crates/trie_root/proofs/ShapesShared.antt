@@ -26,11 +26,11 @@ common_prefix_without p (s ∷ (t ∷ ss)) h =
     ap (common (drop (length p) s.0)) (common_prefix_without p (t ∷ ss) both.1)
     ∙ common_without p s.0 (common_prefix (t ∷ ss)) both.0 both.1
 
-nothing_behind : (p : List ℕ) → drop (length p) p ≡ []
-nothing_behind [] = refl
-nothing_behind (x ∷ p) = nothing_behind p
+nothing_after : (p : List ℕ) → drop (length p) p ≡ []
+nothing_after [] = refl
+nothing_after (x ∷ p) = nothing_after p
 
 pub nothing_shared : (ss : List Suffix) → common_prefix (below (common_prefix ss) ss) ≡ []
 nothing_shared ss =
     let p = common_prefix ss in
-    ap common_prefix (all_remain p ss (begins_itself p)) ∙ common_prefix_without p ss (begins_itself p) ∙ nothing_behind p
+    ap common_prefix (all_remain p ss (begins_itself p)) ∙ common_prefix_without p ss (begins_itself p) ∙ nothing_after p

@@ -1,3 +1,3 @@
 pub mod Pairs
-pub mod Runs
+pub mod Groups
 pub mod Suffixes

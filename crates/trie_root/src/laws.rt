@@ -32,8 +32,8 @@ pub fn prefixes_follow_one_another()
 /// The suffixes of a sorted list that go on with a nibble stand in a row.
 pub fn a_nibble_is_a_row()
     ensures { (nibble : ℕ) (suffixes : List Suffix) → IsTrue (is_sorted (slice_cmp nat_cmp) suffixes)
-        → (front : List Suffix) × (run : List Suffix) × (back : List Suffix) × (suffixes ≡ front ++ (run ++ back))
-        × (below (nibble ∷ []) suffixes ≡ map (λ (s : Suffix). (drop 1 s.0, s.1)) run) }
+        → (front : List Suffix) × (row : List Suffix) × (back : List Suffix) × (suffixes ≡ front ++ (row ++ back))
+        × (below (nibble ∷ []) suffixes ≡ map (λ (s : Suffix). (drop 1 s.0, s.1)) row) }
 {}
 
 /// A sorted list stays sorted without the prefix that all share.

@@ -1,10 +1,10 @@
 ghost use Rattle.std.specs.Prelude.{◌≡◌, ℕ, [], ◌+◌, ◌-◌, ◌*◌, ◌<◌, ◌≤◌, All, IfOk, IfSome, drop, length, slice_index, take};
 ghost use Rattle.sdb_base.specs.Nibbles.{nibbles_of};
 ghost use Rattle.trie_model.specs.Limits.{AreWithin};
-ghost use Rattle.trie_model.specs.Node.{IsShort, merkle_value, spelling};
+ghost use Rattle.trie_model.specs.Node.{HasCompactLength, merkle_value, spelling};
 ghost use Rattle.trie_model.specs.Trie.{child_value, common, common_prefix, node_of_all, trie_root};
 ghost use Rattle.trie_root.specs.Pairs.{AllWithin, KeysRise, state_of_pairs};
-ghost use Rattle.trie_root.specs.Runs.{GoesOn, HasNext, IsOtherNext, IsRun, children_over, node_at, suffixes_at, value_at};
+ghost use Rattle.trie_root.specs.Groups.{GoesOn, HasNext, IsOtherNext, IsGroup, children_over, node_between, suffixes_from, value_ending_at};
 
 use sdb_base::{Bytes, Nibbles, NodeHash, OutOfMemory, Pair, Pairs, TryCopy};
 use sdb_blake2::hash256;
@@ -24,7 +24,7 @@ pub fn root_of(alloc: Global, pairs: &Pairs) -> Result<NodeHash, OutOfMemory>
     let spelled = if pairs.is_empty() {
         spell_empty(alloc)?
     } else {
-        spell_run(alloc, pairs.as_slice(), 0)?
+        spell_group(alloc, pairs.as_slice(), 0)?
     };
     let hash = hash256(spelled.as_slice());
     Ok(NodeHash(hash))
@@ -43,12 +43,12 @@ fn spell_empty(alloc: Global) -> Result<Bytes, OutOfMemory>
     encode(alloc, &node)
 }
 
-// The spelling of the node over what the keys have behind `at` nibbles.
+// The spelling of the node over what the keys have after `at` nibbles.
 #[cycle(nodes)]
-fn spell_run(alloc: Global, pairs: &[Pair], at: usize) -> Result<Bytes, OutOfMemory>
+fn spell_group(alloc: Global, pairs: &[Pair], at: usize) -> Result<Bytes, OutOfMemory>
     requires some { 1 ≤ length pairs.now }
-    requires run { IsRun at pairs.now }
-    ensures { IfOk result (λ bytes. bytes ≡ spelling (node_of_all (suffixes_at at pairs.now))) }
+    requires group { IsGroup at pairs.now }
+    ensures { IfOk result (λ bytes. bytes ≡ spelling (node_of_all (suffixes_from at pairs.now))) }
 {
     let end = at + shared_of_ends(pairs, at);
     let children = children_of(alloc, going_on(pairs, end), end)?;
@@ -60,12 +60,12 @@ fn spell_run(alloc: Global, pairs: &[Pair], at: usize) -> Result<Bytes, OutOfMem
 fn children_of(alloc: Global, pairs: &[Pair], at: usize) -> Result<Vec<Option<Bytes>>, OutOfMemory>
     requires at { at ≤ 2048 }
     requires pairs { GoesOn at pairs.now }
-    ensures { IfOk result (λ children. children.items ≡ children_over (suffixes_at at pairs.now)) }
+    ensures { IfOk result (λ children. children.items ≡ children_over (suffixes_from at pairs.now)) }
 {
     let mut children = Vec::with_capacity(alloc, 16)?;
     let mut rest = pairs;
     for nibble in 0..16u8 {
-        let count = run_len(rest, at, nibble);
+        let count = group_len(rest, at, nibble);
         children.push(child_of(alloc, &rest[..count], at)?)?;
         rest = &rest[count..];
     }
@@ -76,21 +76,21 @@ fn children_of(alloc: Global, pairs: &[Pair], at: usize) -> Result<Vec<Option<By
 #[cycle(nodes)]
 fn child_of(alloc: Global, pairs: &[Pair], at: usize) -> Result<Option<Bytes>, OutOfMemory>
     requires at { at ≤ 2048 }
-    requires run { IsRun (at + 1) pairs.now }
-    ensures { IfOk result (λ child. child ≡ child_value node_of_all (suffixes_at (at + 1) pairs.now)) }
+    requires group { IsGroup (at + 1) pairs.now }
+    ensures { IfOk result (λ child. child ≡ child_value node_of_all (suffixes_from (at + 1) pairs.now)) }
 {
     if pairs.is_empty() {
         return Ok(None);
     }
-    let spelled = spell_run(alloc, pairs, at + 1)?;
+    let spelled = spell_group(alloc, pairs, at + 1)?;
     Ok(Some(merkle_value(alloc, spelled)?))
 }
 
-// How many nibbles behind `at` all keys share: those that the first and the last share.
+// How many nibbles after `at` all keys share: those that the first and the last share.
 fn shared_of_ends(pairs: &[Pair], at: usize) -> usize
     requires some { 1 ≤ length pairs.now }
-    requires run { IsRun at pairs.now }
-    ensures { result ≡ length (common_prefix (suffixes_at at pairs.now)) }
+    requires group { IsGroup at pairs.now }
+    ensures { result ≡ length (common_prefix (suffixes_from at pairs.now)) }
 {
     let first = pairs[0].key.as_slice();
     let last = pairs[pairs.len() - 1].key.as_slice();
@@ -108,11 +108,11 @@ fn spell_node(
     children: Vec<Option<Bytes>>,
 ) -> Result<Bytes, OutOfMemory>
     requires within { AreWithin first.now.key first.now.value }
-    requires behind { at ≤ end }
+    requires rises { at ≤ end }
     requires end { end ≤ 2 * length first.now.key }
     requires sixteen { length children.items ≡ 16 }
-    requires short { All (λ c. IfSome c IsShort) children.items }
-    ensures { IfOk result (λ bytes. bytes ≡ spelling (node_at first.now at end children.items)) }
+    requires short { All (λ c. IfSome c HasCompactLength) children.items }
+    ensures { IfOk result (λ bytes. bytes ≡ spelling (node_between first.now at end children.items)) }
 {
     let mut node = Plain {
         partial: nibbles_between(alloc, first.key.as_slice(), at, end)?,
@@ -139,7 +139,7 @@ fn set_children(list: &mut ChildList, children: Vec<Option<Bytes>>)
 fn copy_value(alloc: Global, pair: &Pair, at: usize) -> Result<Option<Bytes>, OutOfMemory>
     requires short { length pair.now.key ≤ 1024 }
     requires at { at ≤ 2 * length pair.now.key }
-    ensures { IfOk result (λ value. value ≡ value_at at pair.now) }
+    ensures { IfOk result (λ value. value ≡ value_ending_at at pair.now) }
 {
     if 2 * pair.key.len() == at {
         Ok(Some(pair.value.copy(alloc)?))
@@ -151,9 +151,9 @@ fn copy_value(alloc: Global, pair: &Pair, at: usize) -> Result<Option<Bytes>, Ou
 // The pairs but for the one, if there is one, whose key ends at `at` nibbles.
 fn going_on(pairs: &[Pair], at: usize) -> &[Pair]
     requires some { 1 ≤ length pairs.now }
-    requires run { IsRun at pairs.now }
+    requires group { IsGroup at pairs.now }
     ensures on { GoesOn at result.now }
-    ensures same { children_over (suffixes_at at result.now) ≡ children_over (suffixes_at at pairs.now) }
+    ensures same { children_over (suffixes_from at result.now) ≡ children_over (suffixes_from at pairs.now) }
 {
     if 2 * pairs[0].key.len() == at {
         &pairs[1..]
@@ -163,10 +163,10 @@ fn going_on(pairs: &[Pair], at: usize) -> &[Pair]
 }
 
 // How many pairs at the front go on with the nibble.
-fn run_len(pairs: &[Pair], at: usize, nibble: u8) -> usize
+fn group_len(pairs: &[Pair], at: usize, nibble: u8) -> usize
     requires { GoesOn at pairs.now }
     ensures fits { result ≤ length pairs.now }
-    ensures run { All (HasNext at nibble) (take result pairs.now) }
+    ensures group { All (HasNext at nibble) (take result pairs.now) }
     ensures next { IsOtherNext at nibble (drop result pairs.now) }
 {
     for (i, pair) in pairs.iter().enumerate() {
@@ -177,7 +177,7 @@ fn run_len(pairs: &[Pair], at: usize, nibble: u8) -> usize
     pairs.len()
 }
 
-// How many nibbles two keys share behind `at`.
+// How many nibbles two keys share after `at`.
 fn shared_len(a: &[u8], b: &[u8], at: usize) -> usize
     requires short_a { length a.now ≤ 1024 }
     requires short_b { length b.now ≤ 1024 }
@@ -201,7 +201,7 @@ fn nibbles_between(
     from: usize,
     end: usize,
 ) -> Result<Nibbles, OutOfMemory>
-    requires behind { from ≤ end }
+    requires rises { from ≤ end }
     requires end { end ≤ 2 * length key.now }
     ensures value { IfOk result (λ nibbles. nibbles ≡ take (end - from) (drop from (nibbles_of key.now))) }
     ensures below { IfOk result (λ nibbles. All (λ n. n < 16) nibbles) }

@@ -6,11 +6,11 @@ use Rattle.std.proofs.lemmas.List.Elements.{All-from_get_or}
 use Rattle.std.proofs.lemmas.Grind.{take-set_at}
 use Rattle.std.specs.Borrow.{Bor}
 use Rattle.trie_model.specs.Node.{optional_string}
-use Rattle.trie_codec.specs.Gives.{bytes_in}
+use Rattle.trie_codec.specs.Reads.{bytes_in}
 use Rattle.trie_codec.specs.Places.{IsPart}
-use Rattle.trie_codec.specs.Reading.{children_at, reads_inline}
+use Rattle.trie_codec.specs.Reading.{first_children, reads_inline}
 use Rattle.trie_codec.proofs.Children.{goes_on, ends, is_done}
-use Rattle.trie_codec.proofs.Lent.{behind_next, more_taken, none_from_next, none_lent, one_more_behind, one_more_lent, same_behind}
+use Rattle.trie_codec.proofs.Lent.{after_next, more_taken, none_from_next, none_lent, one_more_after, one_more_lent, same_after}
 use Rattle.trie_codec.proofs.Places.{lends_within, part_within, some_within}
 use Rattle.trie_codec.proofs.Taken.{string_took}
 use Rattle.trie_codec.proofs.reading.+inline.Goals as goal
@@ -31,7 +31,7 @@ read_children-returns-in_err-child-clause-gives t c =
     let l = c.loop-i in
     let reads = reads_inline c.args.depth in
     let p = err_from_is_err_and c.from_residual.result c.from_residual.ensures.1 in
-    rw (p.1, p.2) (ends reads (map bytes_in (take l.i l.children.found)) l.i l.bits l.children.rest.now c.in_err-child.field-0.0 (children_at reads 16 c.args.bits c.args.bytes.now) (omega arith) c.in_err-child.ensures.gives l.invariant.so_far)
+    rw (p.1, p.2) (ends reads (map bytes_in (take l.i l.children.found)) l.i l.bits l.children.rest.now c.in_err-child.field-0.0 (first_children reads 16 c.args.bits c.args.bytes.now) (omega arith) c.in_err-child.ensures.gives l.invariant.so_far)
 
 pub read_children-loop-i-preserved : goal.read_children-loop-i-preserved
 read_children-loop-i-preserved t c =
@@ -45,12 +45,12 @@ read_children-loop-i-preserved t c =
     let e : map bytes_in (take (l.i + 1) (set found l.i child)) ≡ map bytes_in (take l.i found) ++ bytes_in child ∷ [] = ap (map bytes_in) taken ∙ map_push bytes_in (take l.i found) child in record {
       sixteen = length-set found l.i child ∙ l.invariant.sixteen;
       none = none_from_next found l.i child l.invariant.none;
-      lent = one_more_behind (IsPart c.args.bytes) found l.i child (length l.children.rest.now) after within l.invariant.none c.in_ok-child.ensures.took l.invariant.lent
+      lent = one_more_after (IsPart c.args.bytes) found l.i child (length l.children.rest.now) after within l.invariant.none c.in_ok-child.ensures.took l.invariant.lent
           (some_within c.args.bytes l.children.rest child after l.invariant.rest c.in_ok-child.ensures.child);
       took = more_taken found l.i child (length c.args.bytes.now) (length l.children.rest.now) after within l.invariant.none c.in_ok-child.ensures.took l.invariant.took;
       small = one_more_lent (λ s. length s.now ≤ 32) found l.i child l.invariant.small c.in_ok-child.ensures.small;
       rest = part_within c.args.bytes l.children.rest c.in_ok-child.rest 0 l.invariant.rest c.in_ok-child.ensures.rest;
-      so_far = rw e (goes_on reads (map bytes_in (take l.i found)) l.i l.bits l.children.rest.now (bytes_in child) c.in_ok-child.rest.now (children_at reads 16 c.args.bits c.args.bytes.now) (omega arith) c.in_ok-child.ensures.gives l.invariant.so_far);
+      so_far = rw e (goes_on reads (map bytes_in (take l.i found)) l.i l.bits l.children.rest.now (bytes_in child) c.in_ok-child.rest.now (first_children reads 16 c.args.bits c.args.bytes.now) (omega arith) c.in_ok-child.ensures.gives l.invariant.so_far);
     }
 
 pub read_children-returns-clause-gives : goal.read_children-returns-clause-gives
@@ -59,11 +59,11 @@ read_children-returns-clause-gives t c =
     let reads = reads_inline c.args.depth in
     let found = l.children.found in
     let all : take l.i found ≡ found = take_all l.i found (omega (arith, l.invariant.sixteen)) in
-    is_done reads (map bytes_in (take l.i found)) l.i l.bits l.children.rest.now (children_at reads 16 c.args.bits c.args.bytes.now) (omega arith) l.invariant.so_far
+    is_done reads (map bytes_in (take l.i found)) l.i l.bits l.children.rest.now (first_children reads 16 c.args.bits c.args.bytes.now) (omega arith) l.invariant.so_far
     ∙ ap (λ (cs : List (Option (Bor (List ℕ)))). Ok (map bytes_in cs, l.children.rest.now)) all
 
 pub read_children-returns-clause-children : goal.read_children-returns-clause-children
-read_children-returns-clause-children t c = behind_next (IsPart c.args.bytes) c.loop-i.children.found (length c.loop-i.children.rest.now) c.loop-i.invariant.lent
+read_children-returns-clause-children t c = after_next (IsPart c.args.bytes) c.loop-i.children.found (length c.loop-i.children.rest.now) c.loop-i.invariant.lent
 
 pub read_branch-returns-clause-parts : goal.read_branch-returns-clause-parts
 read_branch-returns-clause-parts t c =
@@ -73,13 +73,13 @@ read_branch-returns-clause-parts t c =
     let found = c.in_ok-children in
     let cs = found.children.found in
     let rest = length found.children.rest.now in
-    let behind = part_within bytes bits.rest value.rest 0 bits.ensures.rest value.ensures.rest in
+    let after = part_within bytes bits.rest value.rest 0 bits.ensures.rest value.ensures.rest in
     let later : ℕ → ℕ = λ i. length (flat_map optional_string (map bytes_in (drop (i + 1) cs))) + rest in (
-      same_behind (IsPart bytes) value.value (length value.rest.now) (length (flat_map optional_string (map bytes_in cs)) + rest) found.ensures.took
+      same_after (IsPart bytes) value.value (length value.rest.now) (length (flat_map optional_string (map bytes_in cs)) + rest) found.ensures.took
           (some_within bytes bits.rest value.value (length value.rest.now) bits.ensures.rest value.ensures.value),
-      (λ i. same_behind (IsPart bytes) (get_or cs i None) (later i) (length (flat_map optional_string (drop (i + 1) (map bytes_in cs))) + rest)
+      (λ i. same_after (IsPart bytes) (get_or cs i None) (later i) (length (flat_map optional_string (drop (i + 1) (map bytes_in cs))) + rest)
           (ap (λ (l : List (Option (List ℕ))). length (flat_map optional_string l) + rest) (sym (drop-map bytes_in (i + 1) cs)))
-          (some_within bytes value.rest (get_or cs i None) (later i) behind (found.ensures.children i))),
+          (some_within bytes value.rest (get_or cs i None) (later i) after (found.ensures.children i))),
     )
 
 pub read_branch-returns-clause-rest : goal.read_branch-returns-clause-rest
@@ -93,26 +93,26 @@ read_branch-returns-clause-rest t c =
 pub read_node-returns-then-header-eq1-clause-parts : goal.read_node-returns-then-header-eq1-clause-parts
 read_node-returns-then-header-eq1-clause-parts t c =
     let rest = c.in_ok-partial.rest in
-    let behind = part_within c.args.bytes c.in_ok-header.rest rest 0 c.in_ok-header.ensures.rest c.in_ok-partial.ensures.rest in
-    IfOk-weaker c.read_leaf.result _ _ (λ x lends. lends_within c.args.bytes rest x.0 (length x.1.now) behind lends) c.read_leaf.ensures.parts
+    let after = part_within c.args.bytes c.in_ok-header.rest rest 0 c.in_ok-header.ensures.rest c.in_ok-partial.ensures.rest in
+    IfOk-weaker c.read_leaf.result _ _ (λ x lends. lends_within c.args.bytes rest x.0 (length x.1.now) after lends) c.read_leaf.ensures.parts
 
 pub read_node-returns-then-header-eq1-clause-rest : goal.read_node-returns-then-header-eq1-clause-rest
 read_node-returns-then-header-eq1-clause-rest t c =
     let rest = c.in_ok-partial.rest in
-    let behind = part_within c.args.bytes c.in_ok-header.rest rest 0 c.in_ok-header.ensures.rest c.in_ok-partial.ensures.rest in
-    IfOk-weaker c.read_leaf.result _ _ (λ x part. part_within c.args.bytes rest x.1 0 behind part) c.read_leaf.ensures.rest
+    let after = part_within c.args.bytes c.in_ok-header.rest rest 0 c.in_ok-header.ensures.rest c.in_ok-partial.ensures.rest in
+    IfOk-weaker c.read_leaf.result _ _ (λ x part. part_within c.args.bytes rest x.1 0 after part) c.read_leaf.ensures.rest
 
 pub read_node-returns-else-header-eq1-clause-parts : goal.read_node-returns-else-header-eq1-clause-parts
 read_node-returns-else-header-eq1-clause-parts t c =
     let rest = c.in_ok-partial.rest in
-    let behind = part_within c.args.bytes c.in_ok-header.rest rest 0 c.in_ok-header.ensures.rest c.in_ok-partial.ensures.rest in
-    IfOk-weaker c.read_branch.result _ _ (λ x lends. lends_within c.args.bytes rest x.0 (length x.1.now) behind lends) c.read_branch.ensures.parts
+    let after = part_within c.args.bytes c.in_ok-header.rest rest 0 c.in_ok-header.ensures.rest c.in_ok-partial.ensures.rest in
+    IfOk-weaker c.read_branch.result _ _ (λ x lends. lends_within c.args.bytes rest x.0 (length x.1.now) after lends) c.read_branch.ensures.parts
 
 pub read_node-returns-else-header-eq1-clause-rest : goal.read_node-returns-else-header-eq1-clause-rest
 read_node-returns-else-header-eq1-clause-rest t c =
     let rest = c.in_ok-partial.rest in
-    let behind = part_within c.args.bytes c.in_ok-header.rest rest 0 c.in_ok-header.ensures.rest c.in_ok-partial.ensures.rest in
-    IfOk-weaker c.read_branch.result _ _ (λ x part. part_within c.args.bytes rest x.1 0 behind part) c.read_branch.ensures.rest
+    let after = part_within c.args.bytes c.in_ok-header.rest rest 0 c.in_ok-header.ensures.rest c.in_ok-partial.ensures.rest in
+    IfOk-weaker c.read_branch.result _ _ (λ x part. part_within c.args.bytes rest x.1 0 after part) c.read_branch.ensures.rest
 
 pub read_node-invariant_of-empty-clause-small : goal.read_node-invariant_of-empty-clause-small
 read_node-invariant_of-empty-clause-small t c = λ i. none_lent (λ s. length s.now ≤ 32) 16 i

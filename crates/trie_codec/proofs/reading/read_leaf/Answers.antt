@@ -6,8 +6,8 @@ use Rattle.trie_codec.proofs.reading.read_leaf.Goals as goal
 pub returns-clause-parts : goal.returns-clause-parts
 returns-clause-parts c =
     let n = length c.in_ok-value.rest.now in
-    let behind : n ≡ 0 + n = omega arith in
-    (subst (IsPart c.args.bytes c.in_ok-value.value) behind c.in_ok-value.ensures.string, (λ i. none_lent _ 16 i))
+    let after : n ≡ 0 + n = omega arith in
+    (subst (IsPart c.args.bytes c.in_ok-value.value) after c.in_ok-value.ensures.string, (λ i. none_lent _ 16 i))
 
 pub invariant_of-leaf-clause-small : goal.invariant_of-leaf-clause-small
 invariant_of-leaf-clause-small c = λ i. none_lent (λ s. length s.now ≤ 32) 16 i

@@ -5,4 +5,4 @@ use Rattle.trie_root.proofs.laws.a_nibble_is_a_row.Goals as goal
 pub returns : goal.returns
 returns c = λ nibble suffixes h.
     let r : Row nibble suffixes = row nibble suffixes (T_from_true _ h) in
-    (r.front, r.run, r.back, r.parts, below_row nibble suffixes r)
+    (r.front, r.middle, r.back, r.parts, below_row nibble suffixes r)

@@ -2,20 +2,20 @@ use Rattle.std.proofs.Common.{◌≡◌, ℕ, ◌*◌, ◌≤◌, List, [], ◌�
 use Rattle.std.proofs.lemmas.List.{take_rest}
 use Rattle.std.proofs.lemmas.List.Elements.{All-head}
 use Rattle.sdb_base.specs.declared.Pair.{Pair}
-use Rattle.trie_root.specs.Runs.{GoesOn, IsRun, children_over, suffixes_at}
+use Rattle.trie_root.specs.Groups.{GoesOn, IsGroup, children_over, suffixes_from}
 use Rattle.trie_root.proofs.OneNode.{all_go_on, others_go_on, same_children}
 use Rattle.trie_root.proofs.root.going_on.Goals as goal
 
-others : (at : ℕ) (pairs : List Pair) → 1 ≤ length pairs → IsRun at pairs → GoesOn at (drop 1 pairs)
+others : (at : ℕ) (pairs : List Pair) → 1 ≤ length pairs → IsGroup at pairs → GoesOn at (drop 1 pairs)
 others at [] h r = absurd (omega arith)
 others at (p ∷ ps) h r = others_go_on at p ps r
 
 same : (at : ℕ) (pairs : List Pair) (p : Pair) → 1 ≤ length pairs → p ≡ get_or pairs 0 p → 2 * length p.key ≡ at
-    → children_over (suffixes_at at (drop 1 pairs)) ≡ children_over (suffixes_at at pairs)
+    → children_over (suffixes_from at (drop 1 pairs)) ≡ children_over (suffixes_from at pairs)
 same at [] p h e k = absurd (omega arith)
 same at (q ∷ qs) p h e k = same_children at q qs (subst (λ (x : Pair). 2 * length x.key ≡ at) e k)
 
-longer : (at : ℕ) (pairs : List Pair) (p : Pair) → 1 ≤ length pairs → p ≡ get_or pairs 0 p → (2 * length p.key ≡ at → ⊥) → IsRun at pairs
+longer : (at : ℕ) (pairs : List Pair) (p : Pair) → 1 ≤ length pairs → p ≡ get_or pairs 0 p → (2 * length p.key ≡ at → ⊥) → IsGroup at pairs
     → GoesOn at pairs
 longer at [] p h e k r = absurd (omega arith)
 longer at (q ∷ qs) p h e k r =
@@ -25,7 +25,7 @@ longer at (q ∷ qs) p h e k r =
 
 pub returns-then-len-at-clause-on : goal.returns-then-len-at-clause-on
 returns-then-len-at-clause-on c =
-    rw (take_rest c.args.pairs.now 1) (others c.args.at c.args.pairs.now c.requires.some c.requires.run)
+    rw (take_rest c.args.pairs.now 1) (others c.args.at c.args.pairs.now c.requires.some c.requires.group)
 
 pub returns-then-len-at-clause-same : goal.returns-then-len-at-clause-same
 returns-then-len-at-clause-same c =
@@ -35,4 +35,4 @@ returns-then-len-at-clause-same c =
 pub returns-else-len-at-clause-on : goal.returns-else-len-at-clause-on
 returns-else-len-at-clause-on c =
     longer c.args.at c.args.pairs.now c.index-pairs-0.result c.requires.some c.index-pairs-0.is
-    (λ e. omega (arith, ap (λ (x : Pair). length x.key) c.index-pairs-0.is)) c.requires.run
+    (λ e. omega (arith, ap (λ (x : Pair). length x.key) c.index-pairs-0.is)) c.requires.group

@@ -1,7 +1,7 @@
 use Rattle.std.proofs.Common.{◌≡◌, ◌≤◌, ◌++◌, drop, length}
 use Rattle.trie_root.proofs.root.set_children.Given as goal
 
--- the children that are left, and those that are set behind them
+-- the children that are left, and those that are set after them
 abbrev pub invariant-loop-child : goal.invariant-loop-child
 invariant-loop-child l = record {
   all : l.left.items ++ drop (length l.left.items) l.list ≡ l.fn.children.items;

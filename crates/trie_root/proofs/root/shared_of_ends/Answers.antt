@@ -8,7 +8,7 @@ use Rattle.trie_root.proofs.root.shared_of_ends.Goals as goal
 pub returns : goal.returns
 returns c =
     let at = c.args.at in
-    let shared = shared_of_pairs at c.args.pairs.now c.index-pairs-0.result c.index-pairs-pairs.result c.requires.some c.index-pairs-0.is c.index-pairs-pairs.is c.requires.run in
+    let shared = shared_of_pairs at c.args.pairs.now c.index-pairs-0.result c.index-pairs-pairs.result c.requires.some c.index-pairs-0.is c.index-pairs-pairs.is c.requires.group in
     let rest : List ℕ → List ℕ = λ k. drop at (nibbles_of k) in
     let last : c.as_slice-last.result.now ≡ c.index-pairs-pairs.result.key =
     c.as_slice-last.ensures ∙ ap (λ (x : Pair). x.key) (sym c.index-pairs-pairs.is) in

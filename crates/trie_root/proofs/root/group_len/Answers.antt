@@ -2,8 +2,8 @@ use Rattle.std.proofs.Common.{List, ℕ, ap, sym, ◌∙◌}
 use Rattle.std.specs.Prelude.{slice_index}
 use Rattle.std.proofs.lemmas.List.Elements.{All-more, at_read}
 use Rattle.sdb_base.specs.Nibbles.{nibbles_of}
-use Rattle.trie_root.specs.Runs.{HasNext}
-use Rattle.trie_root.proofs.root.run_len.Goals as goal
+use Rattle.trie_root.specs.Groups.{HasNext}
+use Rattle.trie_root.proofs.root.group_len.Goals as goal
 
 pub loop-i-preserved : goal.loop-i-preserved
 loop-i-preserved c =

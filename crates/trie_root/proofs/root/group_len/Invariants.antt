@@ -1,6 +1,6 @@
 use Rattle.std.proofs.Common.{All, take}
-use Rattle.trie_root.specs.Runs.{HasNext}
-use Rattle.trie_root.proofs.root.run_len.Given as goal
+use Rattle.trie_root.specs.Groups.{HasNext}
+use Rattle.trie_root.proofs.root.group_len.Given as goal
 
 -- all pairs so far go on with the nibble
 abbrev pub invariant-loop-i : goal.invariant-loop-i

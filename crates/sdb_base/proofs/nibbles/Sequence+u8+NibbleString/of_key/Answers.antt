@@ -1,7 +1,7 @@
 use Rattle.std.proofs.Common.{sym, take, get_or}
 use Rattle.std.proofs.lemmas.List.{take_more}
 use Rattle.sdb_base.proofs.Halves.{nibbles_of-push}
-use Rattle.sdb_base.proofs.nibbles.Nibbles.of_key.Goals as goal
+use Rattle.sdb_base.proofs.nibbles.Sequence+u8+NibbleString.of_key.Goals as goal
 
 pub loop-byte-preserved : goal.loop-byte-preserved
 loop-byte-preserved c =

@@ -1,5 +1,5 @@
 use Rattle.std.proofs.Common.{◌≡◌, take}
-use Rattle.sdb_base.proofs.items.Items.from_slice.Given as goal
+use Rattle.sdb_base.proofs.items.Sequence+T+Typed.from_slice.Given as goal
 
 -- the items so far are copied
 abbrev pub invariant-loop-item : goal.invariant-loop-item
