@@ -26,17 +26,21 @@ set_within : (w : List ℕ) (c : Change) → setting_of w ≡ Some c → IsChang
 set_within w c h =
     let k = then_some _ (bytes_of most_in_key (before_first is_equals w)) c h in
     let v = map_some (λ value. change_to k.0 (Some value)) (bytes_of most_in_value (after_first is_equals w)) c k.2 in
+    let key = bytes_within most_in_key (before_first is_equals w) k.0 k.1 in
+    let value = bytes_within most_in_value (after_first is_equals w) v.0 v.1 in
     subst IsChange v.2 (record {
       trie = refl;
-      key = bytes_within most_in_key (before_first is_equals w) k.0 k.1;
-      value = bytes_within most_in_value (after_first is_equals w) v.0 v.1;
+      within = record { short_key = key.0; short_value = value.0 };
+      key = key.1;
+      value = value.1;
     })
 
 delete_within : (w : List ℕ) (c : Change) → deletion_of w ≡ Some c → IsChange c
 delete_within w c h =
     chosen IsChange _ (option_map (λ key. change_to key None) (bytes_of most_in_key (before_first is_exclamation w))) None c h
     (λ e. let k = map_some (λ key. change_to key None) (bytes_of most_in_key (before_first is_exclamation w)) c e in
-    subst IsChange k.2 (record { trie = refl; key = bytes_within most_in_key (before_first is_exclamation w) k.0 k.1; value = tt }))
+    let key = bytes_within most_in_key (before_first is_exclamation w) k.0 k.1 in
+    subst IsChange k.2 (record { trie = refl; within = record { short_key = key.0; short_value = tt }; key = key.1; value = tt }))
     (λ e. absurd (none-some c e))
 
 change_within : (w : List ℕ) (c : Change) → change_of w ≡ Some c → IsChange c

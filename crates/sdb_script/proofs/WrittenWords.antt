@@ -124,8 +124,14 @@ value_back : (key : List ℕ) (value : Option (List ℕ)) → HasAtMost most_in_
 value_back key (Some value) k v = set_back key value k v
 value_back key None k v = delete_back key k
 
+short_bytes : (value : Option (List ℕ)) → IfSome value (λ v. length v ≤ most_in_value) → IfSome value IsBytes → IfSome value (HasAtMost most_in_value)
+short_bytes (Some value) short bytes = (short, bytes)
+short_bytes None short bytes = tt
+
 pub change_back : (change : Change) → IsChange change → change_of (change_text change) ≡ Some change
-change_back change h = value_back change.key change.value h.key h.value ∙ ap (λ (c : Change). Some c) (with_trie change h.trie)
+change_back change h =
+    let value = short_bytes change.value h.within.short_value h.value in
+    value_back change.key change.value (h.within.short_key, h.key) value ∙ ap (λ (c : Change). Some c) (with_trie change h.trie)
 
 append_free : (x : ℕ) (front back : List ℕ) → Free x front → Free x back → Free x (front ++ back)
 append_free x [] back f b = b
@@ -137,4 +143,6 @@ value_free (Some value) h = All-cons (λ d. (d == 32) ≡ false) 61 (bytes_text 
 value_free None h = All-cons (λ d. (d == 32) ≡ false) 33 [] refl (All-nil (λ d. (d == 32) ≡ false))
 
 pub change_free : (change : Change) → IsChange change → Free 32 (change_text change)
-change_free change h = append_free 32 (bytes_text change.key) (value_text change.value) (bytes_free 32 refl refl change.key h.key.1) (value_free change.value h.value)
+change_free change h =
+    let value = short_bytes change.value h.within.short_value h.value in
+    append_free 32 (bytes_text change.key) (value_text change.value) (bytes_free 32 refl refl change.key h.key) (value_free change.value value)

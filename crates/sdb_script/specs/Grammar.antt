@@ -7,18 +7,16 @@ use Rattle.std.specs.Str.{bytes_eq}
 use Rattle.sdb_base.specs.declared.Block.{Block}
 use Rattle.sdb_base.specs.declared.BlockId.{BlockId}
 use Rattle.sdb_base.specs.declared.Change.{Change}
+pub use Rattle.sdb_model.specs.Limits.{most_changes}
 use Rattle.sdb_model.specs.declared.Task.TheVariants.{Import, Read, Root}
 use Rattle.sdb_script.specs.declared.line.Line.{Line}
 use Rattle.sdb_script.specs.declared.line.Line.TheVariants.{Blank, New, Genesis, Job}
 use Rattle.sdb_script.specs.Numbers.{number_within}
 use Rattle.sdb_script.specs.Words.{bytes_of, change_of, id_of, most_in_key}
 
--- at most these many bytes in a line, and changes in a block
+-- at most so many bytes in a line
 abbrev pub most_in_line : ℕ
 most_in_line = 16777216
-
-abbrev pub most_changes : ℕ
-most_changes = 65536
 
 -- the words of a line
 abbrev pub words_of : List ℕ → List (List ℕ)

@@ -32,7 +32,8 @@ pub(crate) fn first_word(text: &[u8]) -> (&[u8], Option<&[u8]>)
 
 // The next word where one is left, and the words after it.
 pub(crate) fn next_word(words: Option<&[u8]>) -> Option<(&[u8], Option<&[u8]>)>
-    ensures { MatchOption result (words_left words.entry ≡ []) (λ x. words_left words.entry ≡ x.0.now ∷ words_left x.1) }
+    ensures { MatchOption result (words_left words.entry ≡ [])
+        (λ x. words_left words.entry ≡ x.0.now ∷ words_left x.1) }
 {
     words.map(first_word)
 }

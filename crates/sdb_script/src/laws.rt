@@ -26,8 +26,10 @@ pub fn known_lines()
           ∷ [];
       version = 0;
     }))) }
-    ensures read { line_of (codes "read 01 aA") ≡ Some (lines.Job (tasks.Read (record { 0 = replicate 31 0 ++ 1 ∷ [] }) (170 ∷ []))) }
-    ensures root { line_of (codes "root 0a") ≡ Some (lines.Job (tasks.Root (record { 0 = replicate 31 0 ++ 10 ∷ [] }))) }
+    ensures read { line_of (codes "read 01 aA")
+        ≡ Some (lines.Job (tasks.Read (record { 0 = replicate 31 0 ++ 1 ∷ [] }) (170 ∷ []))) }
+    ensures root { line_of (codes "root 0a")
+        ≡ Some (lines.Job (tasks.Root (record { 0 = replicate 31 0 ++ 10 ∷ [] }))) }
     ensures none { map line_of (
         codes "new 00" ∷ codes "new 17" ∷ codes "new" ∷ codes "new 1 " ∷ codes "New 1"
         ∷ codes "read 01 a" ∷ codes "read 01  aa" ∷ codes "read 01 aa " ∷ codes "read  aa" ∷ codes "read 1 aa"
@@ -52,5 +54,6 @@ pub fn lines_keep_the_limits()
 
 /// Each line within the limits has a text, which is read as that line.
 pub fn lines_are_read_as_written()
-    ensures { (line : Line) → IsWithin line → length (line_text line) ≤ most_in_line → line_of (line_text line) ≡ Some line }
+    ensures { (line : Line) → IsWithin line → length (line_text line) ≤ most_in_line
+        → line_of (line_text line) ≡ Some line }
 {}
