@@ -1,3 +1,4 @@
+pub mod Alike
 pub mod Bitmaps
 pub mod Bits
 pub mod Bodies
@@ -6,6 +7,9 @@ pub mod Headers
 pub mod Layouts
 pub mod Lengths
 pub mod Lent
+pub mod Levels
+pub mod Longer
+pub mod LongerNodes
 pub mod Partial
 pub mod Places
 pub mod ReadBitmap

@@ -38,7 +38,7 @@ length-paired zero (a ∷ (b ∷ ns)) e = absurd (omega arith)
 length-paired (suc k) (a ∷ (b ∷ ns)) e = ap suc (length-paired k ns (omega arith))
 
 -- an even count has no padding
-even_unpadded : (n : ℕ) (bytes : List ℕ) → n % 2 ≡ 0 → checked_padding n bytes ≡ Ok bytes
+pub even_unpadded : (n : ℕ) (bytes : List ℕ) → n % 2 ≡ 0 → checked_padding n bytes ≡ Ok bytes
 even_unpadded n [] even = let t : (n % 2 == 1) ≡ false = grind (arith, nat_tests) in rw t refl
 even_unpadded n (b ∷ bs) even = let t : (n % 2 == 1) ≡ false = grind (arith, nat_tests) in rw t refl
 

@@ -1,6 +1,6 @@
-ghost use Rattle.std.specs.Prelude.{◌≡◌, ℕ, ◌<◌, List, [], ◌∷◌, ◌++◌, All, replicate, None, Some, Err, Ok};
+ghost use Rattle.std.specs.Prelude.{◌≡◌, ℕ, ◌<◌, ◌≤◌, List, [], ◌∷◌, ◌++◌, All, replicate, None, Some, Err, Ok};
 ghost use Rattle.trie_model.specs.Node.{IsNode, Node, empty_node, spelling};
-ghost use Rattle.trie_codec.specs.Reading.{first_node, node_of_bytes, reads_inline};
+ghost use Rattle.trie_codec.specs.Reading.{first_node, node_of_bytes, reads_inline, whole};
 
 use crate::fault::CodecFault;
 
@@ -32,4 +32,18 @@ pub fn what_is_read_was_written()
     ensures front { (n : Node) (bytes rest : List ℕ) → All (λ b. b < 256) bytes → first_node (reads_inline 32) bytes ≡ Ok (n, rest)
         → IsNode n × (bytes ≡ spelling n ++ rest) }
     ensures whole { (n : Node) (bytes : List ℕ) → All (λ b. b < 256) bytes → node_of_bytes bytes ≡ Ok n → IsNode n × (bytes ≡ spelling n) }
+{}
+
+/// Bytes that follow change no fault but `Short`, and a node that is followed by any is `Trailing`.
+pub fn faults_stay()
+    ensures faults { (bytes more : List ℕ) (f : CodecFault) → (f ≡ CodecFault.Short → ⊥)
+        → node_of_bytes bytes ≡ Err f → node_of_bytes (bytes ++ more) ≡ Err f }
+    ensures nodes { (bytes more : List ℕ) (n : Node) → (more ≡ [] → ⊥)
+        → node_of_bytes bytes ≡ Ok n → node_of_bytes (bytes ++ more) ≡ Err CodecFault.Trailing }
+{}
+
+/// Where more than 32 levels of inline children could be read, no other bytes would be, and none as another node.
+pub fn more_levels_read_nothing_more()
+    ensures { (levels : ℕ) (bytes : List ℕ) → 32 ≤ levels
+        → whole (first_node (reads_inline levels) bytes) ≡ node_of_bytes bytes }
 {}

@@ -14,7 +14,7 @@ mod reading;
 mod writing;
 
 pub use fault::CodecFault;
-pub use laws::{known_readings, what_is_read_was_written, what_is_written_is_read};
+pub use laws::{faults_stay, known_readings, more_levels_read_nothing_more, what_is_read_was_written, what_is_written_is_read};
 pub use node_ref::{ChildRef, Kind, NodeRef};
 pub use plain::{ChildList, Plain};
 pub use writing::encode;
