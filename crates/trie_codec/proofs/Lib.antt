@@ -4,6 +4,7 @@ pub mod Bits
 pub mod Bodies
 pub mod Children
 pub mod Headers
+pub mod KeyBytes
 pub mod Layouts
 pub mod Lengths
 pub mod Lent
@@ -22,6 +23,7 @@ pub mod ReadPartial
 pub mod ReadSteps
 pub mod ReadString
 pub mod ReadWhole
+pub mod Refusals
 pub mod Spellings
 pub mod Taken
 pub mod Unpacked

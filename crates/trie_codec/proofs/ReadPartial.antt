@@ -12,7 +12,7 @@ use Rattle.trie_codec.specs.Reading.{◌>>=◌, first_bytes, checked_padding, fi
 use Rattle.trie_codec.proofs.Partial.{length-nibbles_of, partial_lengths}
 use Rattle.trie_codec.proofs.ReadSteps.{AreBytes, value_is, both_gave, no_fault, bytes_in_parts, taken}
 
-paired-nibbles_of : (bytes : List ℕ) → paired (nibbles_of bytes) ≡ bytes
+pub paired-nibbles_of : (bytes : List ℕ) → paired (nibbles_of bytes) ≡ bytes
 paired-nibbles_of [] = refl
 paired-nibbles_of (b ∷ bs) =
     let whole : 16 * (b / 16) + b % 16 ≡ b = omega arith in
@@ -25,12 +25,12 @@ nibbles_small (b ∷ bs) all =
     All-cons (λ n. n < 16) (b / 16) ((b % 16) ∷ nibbles_of bs) (omega arith)
     (All-cons (λ n. n < 16) (b % 16) (nibbles_of bs) (omega arith) (nibbles_small bs (All-tail (λ b. b < 256) b bs all)))
 
-packed_even : (ns : List ℕ) → length ns % 2 ≡ 0 → packed ns ≡ paired ns
+pub packed_even : (ns : List ℕ) → length ns % 2 ≡ 0 → packed ns ≡ paired ns
 packed_even ns e =
     let t : (length ns % 2 == 0) ≡ true = grind (arith, nat_tests) in
     rw t refl
 
-packed_odd : (ns : List ℕ) → length ns % 2 ≡ 1 → packed ns ≡ paired (0 ∷ ns)
+pub packed_odd : (ns : List ℕ) → length ns % 2 ≡ 1 → packed ns ≡ paired (0 ∷ ns)
 packed_odd ns e =
     let t : (length ns % 2 == 0) ≡ false = grind (arith, nat_tests) in
     rw t refl

@@ -17,7 +17,7 @@ pub use fault::CodecFault;
 pub use laws::{faults_stay, known_readings, more_levels_read_nothing_more, what_is_read_was_written, what_is_written_is_read};
 pub use node_ref::{ChildRef, Kind, NodeRef};
 pub use plain::{ChildList, Plain};
-pub use writing::encode;
+pub use writing::{encode, encode_leaf, encode_parts};
 
 #[cfg(test)]
 mod tests;

@@ -11,6 +11,7 @@ ghost use Rattle.trie_codec.specs.Steps.{first_lowest_child};
 
 use crate::fault::CodecFault;
 use crate::node_ref::NodeRef;
+use sdb_scale::{ScaleFault, compact};
 
 /// A partial key has at most so many nibbles.
 const MOST_NIBBLES: usize = 2048;
@@ -109,37 +110,16 @@ fn read_partial(nibbles: usize, bytes: &[u8]) -> Result<(&[u8], &[u8]), CodecFau
 }
 
 // A compact number in its shortest mode.
-#[tactic(auto, unfolding(crate::specs::Reading::first_length))]
 fn read_length(bytes: &[u8]) -> Result<(usize, &[u8]), CodecFault>
     ensures gives { Reads (λ x. (x.0, x.1.now)) result (first_length bytes.now) }
     ensures rest { IfOk result (λ x. IsPart bytes.entry x.1 0) }
 {
-    let [first, rest @ ..] = bytes else {
-        return Err(CodecFault::Short);
-    };
-    match first % 4 {
-        0 => Ok((usize::from(first / 4), rest)),
-        1 => {
-            let [second, rest @ ..] = rest else {
-                return Err(CodecFault::Short);
-            };
-            let len = usize::from(u16::from_le_bytes([*first, *second]) / 4);
-            if len < 1 << 6 {
-                return Err(CodecFault::BadLength);
-            }
-            Ok((len, rest))
-        }
-        2 => {
-            let [second, third, fourth, rest @ ..] = rest else {
-                return Err(CodecFault::Short);
-            };
-            let len = (u32::from_le_bytes([*first, *second, *third, *fourth]) / 4) as usize;
-            if len < 1 << 14 {
-                return Err(CodecFault::BadLength);
-            }
-            Ok((len, rest))
-        }
-        _ => Err(CodecFault::BadLength),
+    match compact(bytes) {
+        Ok((len, rest)) => Ok((len as usize, rest)),
+        Err(ScaleFault::Short) => Err(CodecFault::Short),
+        Err(ScaleFault::NotShortest) => Err(CodecFault::BadLength),
+        Err(ScaleFault::TooLarge) => Err(CodecFault::BadLength),
+        Err(ScaleFault::OutOfMemory) => unreachable!(),
     }
 }
 

@@ -1,10 +1,12 @@
-ghost use Rattle.std.specs.Prelude.{◌≡◌, ◌+◌, ◌*◌, ◌%◌, ◌^◌, ◌<◌, ◌≤◌, ◌++◌, true, All, IfOk, IfSome, OnOk, length};
+ghost use Rattle.std.specs.Prelude.{◌≡◌, ◌+◌, ◌*◌, ◌%◌, ◌^◌, ◌<◌, ◌≤◌, ◌++◌, true, All, IfOk, IfSome, OnOk, drop, length};
 ghost use Rattle.std.specs.Int.{w16, to_le_bytes};
 ghost use Rattle.std.specs.List.{flat_map};
 ghost use Rattle.sdb_scale.specs.Compact.{string};
 ghost use Rattle.trie_model.specs.Nibbles.{packed, paired};
 ghost use Rattle.trie_model.specs.Node.{IsPartial, HasCompactLength, IsSpellable, bitmap, branch_kind, has_child, header, optional_string, spelling, spelled};
-ghost use Rattle.trie_codec.specs.Parts.{node_of};
+ghost use Rattle.sdb_base.specs.Nibbles.{nibbles_of};
+ghost use Rattle.trie_codec.specs.Parts.{leaf_with, node_of, node_with};
+ghost use Rattle.trie_codec.specs.Reads.{bytes_in};
 
 use crate::plain::Plain;
 use sdb_base::{Bytes, OutOfMemory};
@@ -13,35 +15,92 @@ use std::alloc::{AllocError, Global};
 
 /// The spelling of a node of these parts: at most 2,048 nibbles, each below 16, and a value and Merkle values of fewer
 /// than 2^30 bytes. `OutOfMemory` comes only for want of memory.
-#[tactic(auto, unfolding(trie_model::specs::Node::spelling))]
 pub fn encode(alloc: Global, node: &Plain) -> Result<Bytes, OutOfMemory>
     requires { IsSpellable (node_of node.now) }
     ensures { IfOk result (λ bytes. bytes ≡ spelling (node_of node.now)) }
 {
-    let is_branch = is_branch(node.children.as_slice());
-    let mut out = Vec::with_capacity(alloc, room_of(node, is_branch))?;
+    let value = match &node.value {
+        None => None,
+        Some(value) => Some(value.as_slice()),
+    };
+    encode_parts(
+        alloc,
+        node.partial.as_slice(),
+        value,
+        node.children.as_slice(),
+    )
+}
+
+/// `encode` of parts that are borrowed: a partial key in nibbles, a value, and the Merkle values of sixteen children.
+#[tactic(auto, unfolding(trie_model::specs::Node::spelling))]
+pub fn encode_parts(
+    alloc: Global,
+    partial: &[u8],
+    value: Option<&[u8]>,
+    children: &[Option<Bytes>],
+) -> Result<Bytes, OutOfMemory>
+    requires { IsSpellable (node_with partial.now (bytes_in value) children.now) }
+    ensures { IfOk result (λ bytes. bytes ≡ spelling (node_with partial.now (bytes_in value.entry) children.now)) }
+{
+    let is_branch = is_branch(children);
+    let mut out = Vec::with_capacity(alloc, room_of(partial, value, is_branch))?;
     if is_branch {
-        put_branch(&mut out, node)?;
+        put_branch(&mut out, partial, value, children)?;
     } else {
-        match &node.value {
+        match value {
             None => out.push(0)?,
-            Some(value) => put_leaf(&mut out, node.partial.as_slice(), value.as_slice())?,
+            Some(value) => put_leaf(&mut out, partial, value)?,
         }
     }
     Ok(Bytes::from_vec(out))
 }
 
-// Room for a node's spelling, so that it need not grow where children are no longer than hashes.
-fn room_of(node: &Plain, is_branch: bool) -> usize
-    requires partial { length node.now.partial ≤ 2048 }
-    requires value { IfSome node.now.value HasCompactLength }
+/// The spelling of a leaf whose partial key is all that `key` has from nibble `from` on, with a value of fewer than 2^30
+/// bytes. `OutOfMemory` comes only for want of memory.
+#[tactic(auto, using(crate::proofs::KeyBytes::length_from), unfolding(trie_model::specs::Node::spelling))]
+pub fn encode_leaf(
+    alloc: Global,
+    key: &[u8],
+    from: usize,
+    value: &[u8],
+) -> Result<Bytes, OutOfMemory>
+    requires key { length key.now ≤ 1024 }
+    requires from { from ≤ 2 * length key.now }
+    requires value { length value.now < 2 ^ 30 }
+    ensures { IfOk result (λ bytes. bytes ≡ spelling (leaf_with (drop from (nibbles_of key.now)) value.now)) }
 {
-    let value = match &node.value {
+    let len = 2 * key.len() - from;
+    let mut out = Vec::with_capacity(alloc, 14 + len / 2 + value.len())?;
+    put_header(&mut out, 1, len)?;
+    put_key(&mut out, key, from)?;
+    put_string(&mut out, value)?;
+    Ok(Bytes::from_vec(out))
+}
+
+// Appends what a key has from a nibble on, a zero half before an odd count.
+#[tactic(auto, using(crate::proofs::KeyBytes::key_bytes))]
+fn put_key(out: &mut Vec<u8>, key: &[u8], from: usize) -> Result<(), AllocError>
+    requires { from ≤ 2 * length key.now }
+    ensures { OnOk result (out.new.items ≡ out.old.items ++ packed (drop from (nibbles_of key.now))) }
+{
+    if from % 2 == 0 {
+        return out.extend_from_slice(&key[from / 2..]);
+    }
+    out.push(key[from / 2] % 16)?;
+    out.extend_from_slice(&key[from / 2 + 1..])
+}
+
+// Room for a node's spelling, so that it need not grow where children are no longer than hashes.
+fn room_of(partial: &[u8], value: Option<&[u8]>, is_branch: bool) -> usize
+    requires partial { length partial.now ≤ 2048 }
+    requires value { IfSome (bytes_in value) HasCompactLength }
+{
+    let value = match value {
         None => 0,
         Some(value) => 4 + value.len(),
     };
     let children = if is_branch { 2 + 16 * 33 } else { 0 };
-    10 + node.partial.len().div_ceil(2) + value + children
+    10 + partial.len().div_ceil(2) + value + children
 }
 
 // Whether there is a child.
@@ -63,19 +122,24 @@ fn put_leaf(out: &mut Vec<u8>, partial: &[u8], value: &[u8]) -> Result<(), Alloc
 }
 
 // Appends a branch.
-fn put_branch(out: &mut Vec<u8>, node: &Plain) -> Result<(), AllocError>
-    requires partial { IsPartial node.now.partial }
-    requires value { IfSome node.now.value HasCompactLength }
-    requires children { All (λ c. IfSome c HasCompactLength) node.now.children }
-    requires sixteen { length node.now.children ≡ 16 }
-    ensures { OnOk result (out.new.items ≡ out.old.items ++ spelled true node.now.value (node_of node.now)) }
+fn put_branch(
+    out: &mut Vec<u8>,
+    partial: &[u8],
+    value: Option<&[u8]>,
+    children: &[Option<Bytes>],
+) -> Result<(), AllocError>
+    requires partial { IsPartial partial.now }
+    requires value { IfSome (bytes_in value) HasCompactLength }
+    requires children { All (λ c. IfSome c HasCompactLength) children.now }
+    requires sixteen { length children.now ≡ 16 }
+    ensures { OnOk result (out.new.items ≡ out.old.items
+        ++ spelled true (bytes_in value.entry) (node_with partial.now (bytes_in value.entry) children.now)) }
 {
-    let kind = if node.value.is_some() { 3 } else { 2 };
-    let children = node.children.as_slice();
-    put_header(out, kind, node.partial.len())?;
-    put_packed(out, node.partial.as_slice())?;
+    let kind = if value.is_some() { 3 } else { 2 };
+    put_header(out, kind, partial.len())?;
+    put_packed(out, partial)?;
     out.extend_from_slice(&bitmap_of(children).to_le_bytes())?;
-    put_optional(out, &node.value)?;
+    put_optional(out, value)?;
     put_children(out, children)
 }
 
@@ -142,19 +206,30 @@ fn put_children(out: &mut Vec<u8>, children: &[Option<Bytes>]) -> Result<(), All
     ensures { OnOk result (out.new.items ≡ out.old.items ++ flat_map optional_string children.now) }
 {
     for child in children {
-        put_optional(out, child)?;
+        put_child(out, child)?;
     }
     Ok(())
 }
 
+// Appends a child's Merkle value as a byte string, if there is one.
+fn put_child(out: &mut Vec<u8>, child: &Option<Bytes>) -> Result<(), AllocError>
+    requires { IfSome child.now HasCompactLength }
+    ensures { OnOk result (out.new.items ≡ out.old.items ++ optional_string child.now) }
+{
+    match child {
+        None => Ok(()),
+        Some(bytes) => put_string(out, bytes.as_slice()),
+    }
+}
+
 // Appends a part as a byte string, if it is there.
-fn put_optional(out: &mut Vec<u8>, part: &Option<Bytes>) -> Result<(), AllocError>
-    requires { IfSome part.now HasCompactLength }
-    ensures { OnOk result (out.new.items ≡ out.old.items ++ optional_string part.now) }
+fn put_optional(out: &mut Vec<u8>, part: Option<&[u8]>) -> Result<(), AllocError>
+    requires { IfSome (bytes_in part) HasCompactLength }
+    ensures { OnOk result (out.new.items ≡ out.old.items ++ optional_string (bytes_in part.entry)) }
 {
     match part {
         None => Ok(()),
-        Some(bytes) => put_string(out, bytes.as_slice()),
+        Some(bytes) => put_string(out, bytes),
     }
 }
 

@@ -26,3 +26,4 @@ pub mod ShapesShared
 pub mod Shared
 pub mod Short
 pub mod Stripped
+pub mod OneLeaf

@@ -1,15 +1,16 @@
-ghost use Rattle.std.specs.Prelude.{◌≡◌, ℕ, [], ◌+◌, ◌-◌, ◌*◌, ◌<◌, ◌≤◌, All, IfOk, IfSome, drop, length, slice_index, take};
+ghost use Rattle.std.specs.Prelude.{◌≡◌, ℕ, [], ◌∷◌, ◌+◌, ◌-◌, ◌*◌, ◌<◌, ◌≤◌, All, IfOk, IfSome, drop, length, slice_index, take};
 ghost use Rattle.sdb_base.specs.Nibbles.{nibbles_of};
 ghost use Rattle.trie_model.specs.Limits.{AreWithin};
 ghost use Rattle.trie_model.specs.Node.{HasCompactLength, merkle_value, spelling};
 ghost use Rattle.trie_model.specs.Trie.{child_value, common, common_prefix, node_of_all, trie_root};
+ghost use Rattle.trie_codec.specs.Reads.{bytes_in};
 ghost use Rattle.trie_root.specs.Pairs.{AllWithin, KeysRise, state_of_pairs};
 ghost use Rattle.trie_root.specs.Groups.{GoesOn, HasNext, IsOtherNext, IsGroup, children_over, node_between, suffixes_from, value_ending_at};
 
-use sdb_base::{Bytes, Nibbles, NodeHash, OutOfMemory, Pair, Pairs, TryCopy};
+use sdb_base::{Bytes, Nibbles, NodeHash, OutOfMemory, Pair, Pairs};
 use sdb_blake2::hash256;
 use std::alloc::Global;
-use trie_codec::{ChildList, Plain, encode};
+use trie_codec::{ChildList, Plain, encode, encode_leaf, encode_parts};
 
 // A spelling of at least as many bytes stands as its hash.
 const HASH_LEN: usize = 32;
@@ -50,9 +51,21 @@ fn spell_group(alloc: Global, pairs: &[Pair], at: usize) -> Result<Bytes, OutOfM
     requires group { IsGroup at pairs.now }
     ensures { IfOk result (λ bytes. bytes ≡ spelling (node_of_all (suffixes_from at pairs.now))) }
 {
+    if let [only] = pairs {
+        return spell_leaf(alloc, only, at);
+    }
     let end = at + shared_of_ends(pairs, at);
     let children = children_of(alloc, going_on(pairs, end), end)?;
-    spell_node(alloc, &pairs[0], at, end, children)
+    spell_node(alloc, &pairs[0], at, end, children.as_slice())
+}
+
+// The spelling of the leaf over one pair.
+fn spell_leaf(alloc: Global, pair: &Pair, at: usize) -> Result<Bytes, OutOfMemory>
+    requires within { AreWithin pair.now.key pair.now.value }
+    requires at { at ≤ 2 * length pair.now.key }
+    ensures { IfOk result (λ bytes. bytes ≡ spelling (node_of_all (suffixes_from at (pair.now ∷ [])))) }
+{
+    encode_leaf(alloc, pair.key.as_slice(), at, pair.value.as_slice())
 }
 
 // The Merkle values of the children of the node whose partial key ends at `at` nibbles, one for each next nibble.
@@ -97,54 +110,40 @@ fn shared_of_ends(pairs: &[Pair], at: usize) -> usize
     shared_len(first, last, at)
 }
 
-// The spelling of the node over pairs whose keys share what the first has from `at` to `end`. It stands apart so that the
-// sixteen places of a node lie on the stack once, and not at each level.
-#[inline(never)]
+// The spelling of the node over pairs whose keys share what the first has from `at` to `end`.
 fn spell_node(
     alloc: Global,
     first: &Pair,
     at: usize,
     end: usize,
-    children: Vec<Option<Bytes>>,
+    children: &[Option<Bytes>],
 ) -> Result<Bytes, OutOfMemory>
     requires within { AreWithin first.now.key first.now.value }
     requires rises { at ≤ end }
     requires end { end ≤ 2 * length first.now.key }
-    requires sixteen { length children.items ≡ 16 }
-    requires short { All (λ c. IfSome c HasCompactLength) children.items }
-    ensures { IfOk result (λ bytes. bytes ≡ spelling (node_between first.now at end children.items)) }
+    requires sixteen { length children.now ≡ 16 }
+    requires short { All (λ c. IfSome c HasCompactLength) children.now }
+    ensures { IfOk result (λ bytes. bytes ≡ spelling (node_between first.now at end children.now)) }
 {
-    let mut node = Plain {
-        partial: nibbles_between(alloc, first.key.as_slice(), at, end)?,
-        value: copy_value(alloc, first, end)?,
-        children: ChildList::new(),
-    };
-    set_children(&mut node.children, children);
-    encode(alloc, &node)
-}
-
-// Sets all children.
-fn set_children(list: &mut ChildList, children: Vec<Option<Bytes>>)
-    requires places { length list.old ≡ 16 }
-    requires sixteen { length children.items ≡ 16 }
-    ensures { list.new ≡ children.items }
-{
-    let mut left = children;
-    while let Some(child) = left.pop() {
-        list.set(left.len() as u8, child);
-    }
+    let partial = nibbles_between(alloc, first.key.as_slice(), at, end)?;
+    encode_parts(
+        alloc,
+        partial.as_slice(),
+        value_ending_at(first, end),
+        children,
+    )
 }
 
 // The pair's value, if its key ends at `at` nibbles.
-fn copy_value(alloc: Global, pair: &Pair, at: usize) -> Result<Option<Bytes>, OutOfMemory>
+fn value_ending_at(pair: &Pair, at: usize) -> Option<&[u8]>
     requires short { length pair.now.key ≤ 1024 }
     requires at { at ≤ 2 * length pair.now.key }
-    ensures { IfOk result (λ value. value ≡ value_ending_at at pair.now) }
+    ensures { bytes_in result ≡ value_ending_at at pair.now }
 {
     if 2 * pair.key.len() == at {
-        Ok(Some(pair.value.copy(alloc)?))
+        Some(pair.value.as_slice())
     } else {
-        Ok(None)
+        None
     }
 }
 

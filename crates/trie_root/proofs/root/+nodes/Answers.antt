@@ -85,11 +85,11 @@ spell_group-spell_node-requires-clause-end t c =
     end_of_key (c.args.at + c.shared_of_ends.result) c.args.pairs.now c.index-pairs-0.result c.requires.some c.index-pairs-0.is group
 
 pub spell_group-spell_node-requires-clause-sixteen : goal.spell_group-spell_node-requires-clause-sixteen
-spell_group-spell_node-requires-clause-sixteen t c = ap length c.in_ok-children.ensures ∙ sixteen_children _
+spell_group-spell_node-requires-clause-sixteen t c = ap length (c.as_slice.ensures.value ∙ c.in_ok-children.ensures) ∙ sixteen_children _
 
 pub spell_group-spell_node-requires-clause-short : goal.spell_group-spell_node-requires-clause-short
 spell_group-spell_node-requires-clause-short t c =
-    All-same (λ (o : Option (List ℕ)). IfSome o HasCompactLength) _ _ c.in_ok-children.ensures (short_children _)
+    All-same (λ (o : Option (List ℕ)). IfSome o HasCompactLength) _ _ (c.as_slice.ensures.value ∙ c.in_ok-children.ensures) (short_children _)
 
 pub spell_group-returns : goal.spell_group-returns
 spell_group-returns t c =
@@ -97,8 +97,8 @@ spell_group-returns t c =
     let pairs = c.args.pairs.now in
     let first = c.index-pairs-0.result in
     let end : at + c.shared_of_ends.result ≡ end_of at pairs = ap (λ (n : ℕ). at + n) c.shared_of_ends.ensures in
-    let same : node_between first at (at + c.shared_of_ends.result) c.in_ok-children.children.items ≡ node_of_all (suffixes_from at pairs) =
-    ap (node_between first at (at + c.shared_of_ends.result)) (c.in_ok-children.ensures ∙ c.going_on.ensures.same)
+    let same : node_between first at (at + c.shared_of_ends.result) c.as_slice.result.now ≡ node_of_all (suffixes_from at pairs) =
+    ap (node_between first at (at + c.shared_of_ends.result)) (c.as_slice.ensures.value ∙ c.in_ok-children.ensures ∙ c.going_on.ensures.same)
     ∙ ap (λ (e : ℕ). node_between first at e (children_over (suffixes_from e pairs))) end
     ∙ sym (node_of_pairs at pairs first c.requires.some c.index-pairs-0.is c.requires.group) in
     IfOk-weaker c.spell_node.result _ _ (λ b h. h ∙ ap spelling same) c.spell_node.ensures
