@@ -1,5 +1,6 @@
 -- What a contract sees of a source and a sink in memory.
-use Rattle.std.specs.Prelude.{ℕ, List, drop}
+use Rattle.std.specs.Prelude.{ℕ, List, [], ◌∷◌, take, drop, Some}
+use Rattle.sdb_io.specs.Output.{Output}
 use Rattle.sdb_io.specs.declared.memory.MemSource.{MemSource}
 use Rattle.sdb_io.specs.declared.memory.MemSink.{MemSink}
 
@@ -22,6 +23,18 @@ failed_takes s = s.faults
 -- the bytes that a sink has got
 abbrev pub got_by : MemSink → List ℕ
 got_by k = k.bytes.items
+
+-- bytes cut into pieces of these lengths
+abbrev pub pieces : List ℕ → List ℕ → List (List ℕ)
+pieces bytes [] = []
+pieces bytes (n ∷ ns) = take n bytes ∷ pieces (drop n bytes) ns
+
+-- the pieces that a sink has got
+abbrev pub pieces_of : MemSink → List (List ℕ)
+pieces_of k = pieces k.bytes.items k.lengths.items
+
+abbrev pub output_of : MemSink → Output
+output_of k = record { bytes = Some (got_by k); pieces = Some (pieces_of k) }
 
 -- the calls of `put` that are to fail, counted from 0
 abbrev pub puts_to_fail : MemSink → List ℕ

@@ -1,5 +1,6 @@
-ghost use Rattle.std.specs.Prelude.{◌≡◌, ◌≢◌, ◌+◌, ◌-◌, ◌^◌, ◌<◌, ◌≤◌, ◌↔◌, ◌++◌, ◌∷◌, [], ℕ, List, take, drop, length, min, Option, Some, IsOk, IsErr, IfOk, OnOk, OnErr, Contains, vec_len};
-ghost use Rattle.sdb_io.specs.Faults.{Rose};
+ghost use Rattle.std.specs.Prelude.{◌≡◌, ◌≢◌, ◌+◌, ◌-◌, ◌^◌, ◌<◌, ◌≤◌, ◌↔◌, ◌++◌, ◌∷◌, [], ℕ, List, take, drop, length, min, sum, Option, Some, is_err, IsOk, IsErr, IfOk, OnOk, OnErr, Contains, vec_len};
+ghost use Rattle.sdb_io.specs.Faults.{CountsFault, one_more};
+ghost use Rattle.sdb_io.specs.Output.{Gets, GetsPrefix};
 
 use crate::OutOfMemory;
 use crate::sink::{Sink, SinkFault};
@@ -60,14 +61,13 @@ impl Source for MemSource {
         ensures moved { (bytes : List ℕ) → Some (left_of self.old) ≡ Some bytes → IfOk result (λ n. (n ≤ length bytes)
             × (take n into.new ≡ take n bytes) × (Some (left_of self.new) ≡ Some (drop n bytes))) }
         ensures end { (bytes : List ℕ) → Some (left_of self.old) ≡ Some bytes → 0 < length into.old → IfOk result (λ n. n ≡ 0 → bytes ≡ []) }
-        ensures kept { OnErr result (Some (left_of self.new) ≡ Some (left_of self.old)) }
-        ensures counted { failed_takes self.old ≤ failed_takes self.new }
-        ensures cause { OnErr result (Rose (failed_takes self.old) (failed_takes self.new)) }
+        ensures kept { (bytes : List ℕ) → Some (left_of self.old) ≡ Some bytes → OnErr result (Some (left_of self.new) ≡ Some bytes) }
+        ensures counted { CountsFault (is_err result) (failed_takes self.old) (failed_takes self.new) }
         // It fails just where it was told to, and gives as many bytes as there is room for.
         ensures fails { IsErr result ↔ Contains (takes_to_fail self.old) (takes self.old) }
         ensures most { IfOk result (λ n. n ≡ min (length (left_of self.old)) (length into.old)) }
         ensures told { takes_to_fail self.new ≡ takes_to_fail self.old }
-        ensures next { takes self.new ≡ min (takes self.old + 1) (2 ^ 64 - 1) }
+        ensures next { takes self.new ≡ one_more (takes self.old) }
     {
         let fails = self.failing.contains(&self.calls);
         self.calls = self.calls.saturating_add(1);
@@ -87,26 +87,31 @@ impl Source for MemSource {
     }
 }
 
-/// A sink that keeps what it gets.
+/// A sink that keeps what it gets, and where each piece of it ends.
 #[derive(Debug, Drop)]
 pub struct MemSink {
     bytes: Vec<u8>,
+    // the length of each piece
+    lengths: Vec<usize>,
     failing: Vec<u64>,
     calls: u64,
     faults: u64,
+    ghost whole: { sum lengths.items ≡ length bytes.items },
 }
 
 impl MemSink {
-    ghost use Rattle.sdb_io.specs.Memory.{got_by, puts_to_fail, puts, failed_puts};
+    ghost use Rattle.std.specs.Prelude.{map};
+    ghost use Rattle.sdb_io.specs.Memory.{got_by, pieces_of, puts_to_fail, puts, failed_puts};
 
     /// A sink that has got nothing.
     pub fn new(alloc: Global) -> MemSink
-        ensures got { got_by result ≡ [] }
+        ensures got { (got_by result ≡ []) × (pieces_of result ≡ []) }
         ensures steady { puts_to_fail result ≡ [] }
         ensures counts { (puts result ≡ 0) × (failed_puts result ≡ 0) }
     {
         MemSink {
             bytes: Vec::new(alloc),
+            lengths: Vec::new(alloc),
             failing: Vec::new(alloc),
             calls: 0,
             faults: 0,
@@ -120,41 +125,59 @@ impl MemSink {
         self.bytes.as_slice()
     }
 
+    /// The length of each piece that was got, in their order.
+    pub fn lengths(&self) -> &[usize]
+        ensures { result.now ≡ map length (pieces_of self.now) }
+    {
+        self.lengths.as_slice()
+    }
+
     /// Makes that call of `put` fail, counted from 0 over all calls. An `Err` changes nothing.
     pub fn fail_at(&mut self, call: u64) -> Result<(), OutOfMemory>
         ensures ok { OnOk result (puts_to_fail self.new ≡ puts_to_fail self.old ++ call ∷ []) }
         ensures err { OnErr result (puts_to_fail self.new ≡ puts_to_fail self.old) }
-        ensures got { got_by self.new ≡ got_by self.old }
+        ensures got { (got_by self.new ≡ got_by self.old) × (pieces_of self.new ≡ pieces_of self.old) }
         ensures counts { (puts self.new ≡ puts self.old) × (failed_puts self.new ≡ failed_puts self.old) }
     {
         self.failing.push(call)?;
+        Ok(())
+    }
+
+    // Adds a piece. An `Err` changes nothing.
+    fn add(&mut self, piece: &[u8]) -> Result<(), OutOfMemory>
+        ensures ok { OnOk result ((got_by self.new ≡ got_by self.old ++ piece.now) × (pieces_of self.new ≡ pieces_of self.old ++ piece.now ∷ [])) }
+        ensures err { OnErr result ((got_by self.new ≡ got_by self.old) × (pieces_of self.new ≡ pieces_of self.old)) }
+        ensures told { puts_to_fail self.new ≡ puts_to_fail self.old }
+        ensures counts { (puts self.new ≡ puts self.old) × (failed_puts self.new ≡ failed_puts self.old) }
+    {
+        self.lengths.reserve(1)?;
+        self.bytes.extend_from_slice(piece)?;
+        self.lengths.push(piece.len())?;
         Ok(())
     }
 }
 
 impl Sink for MemSink {
     ghost use Rattle.std.specs.Prelude.{Some};
-    ghost use Rattle.sdb_io.specs.Memory.{got_by, puts_to_fail, puts, failed_puts};
+    ghost use Rattle.sdb_io.specs.Memory.{got_by, output_of, pieces_of, puts_to_fail, puts, failed_puts};
 
-    ghost got = { λ k. Some (got_by k) };
+    ghost got = { λ k. output_of k };
 
     ghost fault_count = { λ k. failed_puts k };
 
     fn put(&mut self, bytes: &[u8]) -> Result<(), SinkFault>
-        ensures ok { (before : List ℕ) → Some (got_by self.old) ≡ Some before → OnOk result (Some (got_by self.new) ≡ Some (before ++ bytes.now)) }
-        ensures err { (before : List ℕ) → Some (got_by self.old) ≡ Some before
-            → OnErr result ((n : ℕ) × (Some (got_by self.new) ≡ Some (before ++ take n bytes.now))) }
-        ensures counted { failed_puts self.old ≤ failed_puts self.new }
-        ensures cause { OnErr result (Rose (failed_puts self.old) (failed_puts self.new)) }
+        ensures ok { OnOk result (Gets (output_of self.old) (output_of self.new) (bytes.now ∷ [])) }
+        ensures err { OnErr result (GetsPrefix (output_of self.old) (output_of self.new) [] bytes.now) }
+        ensures counted { CountsFault (is_err result) (failed_puts self.old) (failed_puts self.new) }
         // It fails where it was told to, and else only for want of memory; a call that fails takes nothing.
         ensures fails { Contains (puts_to_fail self.old) (puts self.old) → IsErr result }
-        ensures nothing { OnErr result (got_by self.new ≡ got_by self.old) }
+        ensures nothing { OnErr result ((got_by self.new ≡ got_by self.old) × (pieces_of self.new ≡ pieces_of self.old)) }
         ensures told { puts_to_fail self.new ≡ puts_to_fail self.old }
-        ensures next { puts self.new ≡ min (puts self.old + 1) (2 ^ 64 - 1) }
+        ensures next { puts self.new ≡ one_more (puts self.old) }
     {
         let fails = self.failing.contains(&self.calls);
         self.calls = self.calls.saturating_add(1);
-        if fails || self.bytes.extend_from_slice(bytes).is_err() {
+        if fails || self.add(bytes).is_err() {
             self.faults = self.faults.saturating_add(1);
             return Err(SinkFault);
         }

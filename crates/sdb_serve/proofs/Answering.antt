@@ -9,74 +9,75 @@ use Rattle.sdb_script.specs.declared.Line.{Line}
 use Rattle.sdb_script.specs.declared.Line.TheVariants as lines
 use Rattle.sdb_script.specs.declared.LineReply.{LineReply}
 use Rattle.sdb_script.specs.declared.LineReply.TheVariants as replies
-use Rattle.sdb_serve.specs.Session.{Session, answered, job_answered, line_played, most_bytes, reply_line}
+use Rattle.sdb_serve.specs.inner.Pieces.{as_piece}
+use Rattle.sdb_serve.specs.Session.{SessionState, answer, answer_job, play_line, most_bytes, reply_lines}
 
-pub blank : (s : Session) → answered s lines.Blank ≡ Some (None, s)
-unfolding answered
+pub blank : (s : SessionState) → answer s lines.Blank ≡ Some (None, s)
+unfolding answer
 blank s = refl
 
-pub new_first : (s : Session) (base : ℕ) → s.begun ≡ false → answered s (lines.New base) ≡ Some (Some replies.New, record s { begun = true })
-unfolding answered
+pub new_first : (s : SessionState) (base : ℕ) → s.begun ≡ false → answer s (lines.New base) ≡ Some (Some replies.New, record s { begun = true })
+unfolding answer
 new_first s base e = rw e refl
 
-pub new_again : (s : Session) (base : ℕ) → s.begun ≡ true → answered s (lines.New base) ≡ None
-unfolding answered
+pub new_again : (s : SessionState) (base : ℕ) → s.begun ≡ true → answer s (lines.New base) ≡ None
+unfolding answer
 new_again s base e = rw e refl
 
-pub genesis_first : (s : Session) (window : ℕ) (b : Block) → s.begun ≡ true → s.blocks ≡ []
-    → answered s (lines.Genesis window b) ≡ Some (Some replies.Genesis, record s { window = window; blocks = b ∷ [] })
-unfolding answered
+pub genesis_first : (s : SessionState) (window : ℕ) (b : Block) → s.begun ≡ true → s.blocks ≡ []
+    → answer s (lines.Genesis window b) ≡ Some (Some replies.Genesis, record s { window = window; blocks = b ∷ [] })
+unfolding answer
 genesis_first s window b e f = rw (e, f) refl
 
-pub genesis_early : (s : Session) (window : ℕ) (b : Block) → s.begun ≡ false → answered s (lines.Genesis window b) ≡ None
-unfolding answered
+pub genesis_early : (s : SessionState) (window : ℕ) (b : Block) → s.begun ≡ false → answer s (lines.Genesis window b) ≡ None
+unfolding answer
 genesis_early s window b e = rw e refl
 
 some_blocks : (blocks : List Block) → blocks ≢ [] → (length blocks == 0) ≡ false
 some_blocks [] h = absurd (h refl)
 some_blocks (b ∷ bs) h = ne_eqb _ 0 (λ e. absurd (omega (arith, e)))
 
-pub genesis_again : (s : Session) (window : ℕ) (b : Block) → s.begun ≡ true → s.blocks ≢ [] → answered s (lines.Genesis window b) ≡ None
-unfolding answered
+pub genesis_again : (s : SessionState) (window : ℕ) (b : Block) → s.begun ≡ true → s.blocks ≢ [] → answer s (lines.Genesis window b) ≡ None
+unfolding answer
 genesis_again s window b e h = rw (e, some_blocks s.blocks h) refl
 
-pub job_early : (s : Session) (task : Task) → s.blocks ≡ [] → answered s (lines.Job task) ≡ None
-unfolding answered
+pub job_early : (s : SessionState) (task : Task) → s.blocks ≡ [] → answer s (lines.Job task) ≡ None
+unfolding answer
 job_early s task f = rw f refl
 
-pub job_is : (s : Session) (task : Task) (reply : Reply) (after : List Block) → s.blocks ≢ [] → job_answered s.blocks task ≡ Some (reply, after)
-    → answered s (lines.Job task) ≡ Some (Some (replies.Job reply), record s { blocks = after })
-unfolding answered
+pub job_is : (s : SessionState) (task : Task) (reply : Reply) (after : List Block) → s.blocks ≢ [] → answer_job s.blocks task ≡ Some (reply, after)
+    → answer s (lines.Job task) ≡ Some (Some (replies.Job reply), record s { blocks = after })
+unfolding answer
 job_is s task reply after h e = rw (some_blocks s.blocks h, e) refl
 
-pub job_none : (s : Session) (task : Task) → s.blocks ≢ [] → job_answered s.blocks task ≡ None → answered s (lines.Job task) ≡ None
-unfolding answered
+pub job_none : (s : SessionState) (task : Task) → s.blocks ≢ [] → answer_job s.blocks task ≡ None → answer s (lines.Job task) ≡ None
+unfolding answer
 job_none s task h e = rw (some_blocks s.blocks h, e) refl
 
 -- ---- a line's text
 
-pub too_far : (s : Session) (text : List ℕ) → most_bytes < s.read + (length text + 1) → line_played s text ≡ None
-unfolding line_played
+pub too_far : (s : SessionState) (text : List ℕ) → most_bytes < s.read + (length text + 1) → play_line s text ≡ None
+unfolding play_line
 too_far s text h = rw (lt-ltb _ _ h) refl
 
-pub no_line : (s : Session) (text : List ℕ) → line_of text ≡ None → line_played s text ≡ None
-unfolding line_played
+pub no_line : (s : SessionState) (text : List ℕ) → line_of text ≡ None → play_line s text ≡ None
+unfolding play_line
 no_line s text e = elim (cases_lt most_bytes (s.read + (length text + 1))) [
   | inl lt ↦ rw (lt-ltb _ _ lt) refl
   | inr le ↦ rw (le-ltb _ _ le, e) refl
 ]
 
-pub not_answered : (s : Session) (text : List ℕ) (line : Line) → line_of text ≡ Some line → answered s line ≡ None → line_played s text ≡ None
-unfolding line_played
+pub not_answered : (s : SessionState) (text : List ℕ) (line : Line) → line_of text ≡ Some line → answer s line ≡ None → play_line s text ≡ None
+unfolding play_line
 not_answered s text line e f = elim (cases_lt most_bytes (s.read + (length text + 1))) [
   | inl lt ↦ rw (lt-ltb _ _ lt) refl
   | inr le ↦ rw (le-ltb _ _ le, e, f) refl
 ]
 
-pub line_is : (s : Session) (text : List ℕ) (line : Line) (reply : Option LineReply) (next : Session) → s.read + (length text + 1) ≤ most_bytes
-    → line_of text ≡ Some line → answered s line ≡ Some (reply, next)
-    → line_played s text ≡ Some (reply_line reply, record next { read = s.read + (length text + 1) })
-unfolding line_played
+pub line_is : (s : SessionState) (text : List ℕ) (line : Line) (reply : Option LineReply) (next : SessionState) → s.read + (length text + 1) ≤ most_bytes
+    → line_of text ≡ Some line → answer s line ≡ Some (reply, next)
+    → play_line s text ≡ Some (reply_lines reply, record next { read = s.read + (length text + 1) })
+unfolding play_line
 line_is s text line reply next le e f = rw (le-ltb _ _ le, e, f) refl
 
 -- ---- tests
@@ -91,3 +92,13 @@ no_items (x ∷ xs) e = absurd (no_test (sym (ne_eqb (length (x ∷ xs)) 0 (λ h
 pub nothing_in : {X : Type 0} (xs : List X) → length xs ≡ 0 → xs ≡ []
 nothing_in [] e = refl
 nothing_in (x ∷ xs) e = absurd (omega (arith, e))
+
+-- ---- pieces
+
+pub no_piece : (text : List ℕ) → (length text == 0) ≡ true → as_piece text ≡ []
+no_piece [] e = refl
+no_piece (b ∷ bs) e = absurd (no_test (sym (ne_eqb (length (b ∷ bs)) 0 (λ h. absurd (omega (arith, h)))) ∙ e))
+
+pub some_piece : (text : List ℕ) → (length text == 0) ≡ false → as_piece text ≡ text ∷ []
+some_piece [] e = absurd cc
+some_piece (b ∷ bs) e = refl

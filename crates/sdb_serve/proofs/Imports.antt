@@ -9,11 +9,11 @@ use Rattle.sdb_model.specs.Blocks.{count_at, number_of}
 use Rattle.sdb_model.specs.declared.Refusal.TheVariants.{AlreadyExists, UnknownParent}
 use Rattle.sdb_model.specs.declared.Reply.{Reply}
 use Rattle.sdb_model.specs.declared.Reply.TheVariants.{Imported, Refused}
-use Rattle.sdb_serve.specs.Blocks.{Keeps, id_cmp}
+use Rattle.sdb_serve.specs.inner.Blocks.{RepresentsBlocks, id_cmp}
 use Rattle.sdb_serve.specs.Jobs.{import_on, import_reply, most_siblings}
 use Rattle.sdb_serve.specs.declared.blocks.BlockMap.{BlockMap}
-use Rattle.sdb_serve.specs.declared.blocks.Kept.{Kept}
-use Rattle.sdb_serve.proofs.Keeping.{kept_has_chain}
+use Rattle.sdb_serve.specs.declared.blocks.BlockEntry.{BlockEntry}
+use Rattle.sdb_serve.proofs.Keeping.{entry_has_chain}
 
 -- the reply by how many blocks have the number
 abbrev by_room : ℕ → ℕ → Option Reply
@@ -28,19 +28,19 @@ no_room number siblings full = ap (λ t. cond t None (Some (Imported number))) (
 pub room : (number siblings : ℕ) → siblings < most_siblings → Some (Imported number) ≡ by_room number siblings
 room number siblings less = ap (λ t. cond t None (Some (Imported number))) (sym (lt-leb most_siblings siblings less))
 
-module _ (m : BlockMap) (blocks : List Block) (b : Block) (keeps : Keeps m blocks) where
-  parent_number : (o : Option Kept) → get id_cmp m.blocks b.parent ≡ o → number_of blocks b.parent ≡ option_map (λ (k : Kept). k.number) o
-  parent_number o e = sym (keeps.numbers b.parent) ∙ ap (option_map (λ (k : Kept). k.number)) e
+module _ (m : BlockMap) (blocks : List Block) (b : Block) (represents : RepresentsBlocks m blocks) where
+  parent_number : (o : Option BlockEntry) → get id_cmp m.blocks b.parent ≡ o → number_of blocks b.parent ≡ option_map (λ (k : BlockEntry). k.number) o
+  parent_number o e = sym (represents.numbers b.parent) ∙ ap (option_map (λ (k : BlockEntry). k.number)) e
 
   pub import_without_parent : get id_cmp m.blocks b.parent ≡ None → Some (Refused UnknownParent) ≡ import_reply blocks b
   unfolding import_reply
   import_without_parent e = ap (import_on blocks b) (sym (parent_number None e))
 
-  module _ (parent : Kept) (at_parent : get id_cmp m.blocks b.parent ≡ Some parent) where
+  module _ (parent : BlockEntry) (at_parent : get id_cmp m.blocks b.parent ≡ Some parent) where
     -- no number is at its type's end, so that the saturating sum is the sum
     pub next_number : (number : ℕ) → number ≡ min (parent.number + 1) (2 ^ 64 - 1) → number ≡ parent.number + 1
     next_number number is =
-        let less = keeps.below b.parent parent.number (parent_number (Some parent) at_parent) in
+        let less = represents.below b.parent parent.number (parent_number (Some parent) at_parent) in
         let small = m.levels.small in
         let long = m.levels.ok in
         omega arith
@@ -49,7 +49,7 @@ module _ (m : BlockMap) (blocks : List Block) (b : Block) (keeps : Keeps m block
         → cond known (Some (Refused AlreadyExists)) (by_room (parent.number + 1) (count_at blocks (parent.number + 1))) ≡ import_reply blocks b
     unfolding import_reply
     by_id known e =
-        ap (λ t. cond t (Some (Refused AlreadyExists)) (by_room (parent.number + 1) (count_at blocks (parent.number + 1)))) (sym e ∙ kept_has_chain m blocks b.id keeps)
+        ap (λ t. cond t (Some (Refused AlreadyExists)) (by_room (parent.number + 1) (count_at blocks (parent.number + 1)))) (sym e ∙ entry_has_chain m blocks b.id represents)
         ∙ ap (import_on blocks b) (sym (parent_number (Some parent) at_parent))
 
     pub import_again : is_some (get id_cmp m.blocks b.id) ≡ true → Some (Refused AlreadyExists) ≡ import_reply blocks b
@@ -59,4 +59,4 @@ module _ (m : BlockMap) (blocks : List Block) (b : Block) (keeps : Keeps m block
         → siblings ≡ get_or m.levels.items number 0 → by_room number siblings ≡ import_reply blocks b
     import_of_new new number siblings is_next is_count =
         let next = next_number number is_next in
-        ap₂ by_room next (is_count ∙ ap (λ k. get_or m.levels.items k 0) next ∙ keeps.levels (parent.number + 1)) ∙ by_id false new
+        ap₂ by_room next (is_count ∙ ap (λ k. get_or m.levels.items k 0) next ∙ represents.levels (parent.number + 1)) ∙ by_id false new

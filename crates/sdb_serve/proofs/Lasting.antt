@@ -13,7 +13,7 @@ use Rattle.std.proofs.lemmas.List.{get_or-map, length-map}
 use Rattle.std.proofs.lemmas.Map.Views.{All-keys-insert_entry, All-map-remove_entry, All-values-insert_entry}
 use Rattle.sdb_base.specs.declared.Pair.{Pair}
 use Rattle.sdb_model.specs.Limits.{most_in_key, most_in_value}
-use Rattle.sdb_serve.specs.Lengths.{AllShort}
+use Rattle.sdb_serve.specs.inner.Lengths.{AllShort}
 use Rattle.trie_root.specs.Pairs.{AllWithin, entries_of}
 
 pub short_inserted : (k v : List ℕ) (es : List (List ℕ × List ℕ)) → AllShort es → length k ≤ most_in_key → length v ≤ most_in_value

@@ -2,7 +2,11 @@ pub mod Answering
 pub mod Entries
 pub mod Imports
 pub mod Keeping
+pub mod Outputs
+pub mod Lines
 pub mod Running
+pub mod Halting
 pub mod Closing
+pub mod Words
 pub mod Unique
 pub mod Lasting

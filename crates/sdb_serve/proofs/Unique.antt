@@ -3,10 +3,10 @@ use Rattle.std.proofs.Common.{◌≡◌, ◌≢◌, ℕ, zero, suc, List, [], �
 use Rattle.std.specs.Prelude.{◌⊎◌, All}
 use Rattle.std.specs.Option.{option_map}
 use Rattle.std.specs.List.{flat_map}
-use Rattle.sdb_serve.specs.Session.{Session, first_session, line_played, played}
+use Rattle.sdb_serve.specs.Session.{SessionState, first_session, play_line, play_lines}
 use Rattle.sdb_serve.specs.Runs.{BeginsWith, HasNoLineFeed, IsBad, IsFirstBad, IsRun, IsScript, Run, ended}
 use Rattle.sdb_script.proofs.Within.{map_some, then_some}
-use Rattle.sdb_serve.proofs.Running.{some_is}
+use Rattle.sdb_serve.proofs.Running.{Played, some_is}
 
 clear_tail : (x : ℕ) (xs : List ℕ) → HasNoLineFeed (x ∷ xs) → HasNoLineFeed xs
 clear_tail x xs h k d lt = h (suc k) d (omega arith)
@@ -43,21 +43,21 @@ differ : {A : Type 0} (x : A) → ◌≡◌ {A = Option A} None (Some x) → ⊥
 differ x e = absurd cc
 
 -- the rest can't be gone on with
-abbrev Stuck : Session → List ℕ → Type 0
-Stuck s m = ((line rest : List ℕ) × BeginsWith m line rest × (line_played s line ≡ None)) ⊎ (HasNoLineFeed m × (m ≢ []))
+abbrev Stuck : SessionState → List ℕ → Type 0
+Stuck s m = ((line rest : List ℕ) × BeginsWith m line rest × (play_line s line ≡ None)) ⊎ (HasNoLineFeed m × (m ≢ []))
 
-stuck_some : (s : Session) (m : List ℕ) → Stuck s m → m ≡ [] → ⊥
+stuck_some : (s : SessionState) (m : List ℕ) → Stuck s m → m ≡ [] → ⊥
 stuck_some s m stuck e = elim stuck [
   | inl b ↦ not_empty b.0 b.1 (sym b.2.parts ∙ e)
   | inr b ↦ b.1 e
 ]
 
 -- no line that stands there is answered
-stuck_line : (s : Session) (m k n : List ℕ) (out : List ℕ) (next : Session) → Stuck s m → HasNoLineFeed k → m ≡ k ++ 10 ∷ n → line_played s k ≡ Some (out, next) → ⊥
+stuck_line : (s : SessionState) (m k n : List ℕ) (out : List (List ℕ)) (next : SessionState) → Stuck s m → HasNoLineFeed k → m ≡ k ++ 10 ∷ n → play_line s k ≡ Some (out, next) → ⊥
 stuck_line s m k n out next stuck clear e f = elim stuck [
   | inl b ↦
       let same : b.0 ≡ k = (first_line_same b.0 k b.1 n b.2.one_line clear (sym b.2.parts ∙ e)).0 in
-      let none : line_played s k ≡ None = ap (line_played s) (sym same) ∙ b.3 in
+      let none : play_line s k ≡ None = ap (play_line s) (sym same) ∙ b.3 in
       differ (out, next) (sym none ∙ f)
   | inr b ↦ not_clear k n (subst HasNoLineFeed e b.0)
 ]
@@ -76,40 +76,40 @@ regroup : (l : List ℕ) (ls : List (List ℕ)) (m : List ℕ) → flat_map ende
 regroup l ls m = append_assoc (ended l) (flat_map ended ls) m ∙ append_assoc l (10 ∷ []) (flat_map ended ls ++ m)
 
 -- what the first of several lines did
-first_played : (s : Session) (l : List ℕ) (ls : List (List ℕ)) (out : List ℕ) (at : Session) → played s (l ∷ ls) ≡ Some (out, at)
-    → (x : List ℕ × Session) × (line_played s l ≡ Some x) × (y : List ℕ × Session) × (played x.1 ls ≡ Some y) × (y.1 ≡ at)
-unfolding played
+first_played : (s : SessionState) (l : List ℕ) (ls : List (List ℕ)) (out : List (List ℕ)) (at : SessionState) → play_lines s (l ∷ ls) ≡ Some (out, at)
+    → (x : Played) × (play_line s l ≡ Some x) × (y : Played) × (play_lines x.1 ls ≡ Some y) × (y.1 ≡ at)
+unfolding play_lines
 first_played s l ls out at e =
-    let first = then_some (λ (a : List ℕ × Session). option_map (λ (b : List ℕ × Session). (a.0 ++ b.0, b.1)) (played a.1 ls)) (line_played s l) (out, at) e in
-    let x : List ℕ × Session = first.0 in
-    let others = map_some (λ (b : List ℕ × Session). (x.0 ++ b.0, b.1)) (played x.1 ls) (out, at) first.2 in
-    (x, first.1, others.0, others.1, ap (λ (p : List ℕ × Session). p.1) others.2)
+    let first = then_some (λ (a : Played). option_map (λ (b : Played). (a.0 ++ b.0, b.1)) (play_lines a.1 ls)) (play_line s l) (out, at) e in
+    let x : Played = first.0 in
+    let others = map_some (λ (b : Played). (x.0 ++ b.0, b.1)) (play_lines x.1 ls) (out, at) first.2 in
+    (x, first.1, others.0, others.1, ap (λ (p : Played). p.1) others.2)
 
-last_played : (s : Session) (out : List ℕ) (at : Session) → played s [] ≡ Some (out, at) → s ≡ at
-unfolding played
-last_played s out at e = ap (λ (p : List ℕ × Session). p.1) (some_is ([], s) (out, at) e)
+last_played : (s : SessionState) (out : List (List ℕ)) (at : SessionState) → play_lines s [] ≡ Some (out, at) → s ≡ at
+unfolding play_lines
+last_played s out at e = ap (λ (p : Played). p.1) (some_is ([], s) (out, at) e)
 
 -- no run goes further than one that is stuck
-no_further : (s : Session) (ls ks : List (List ℕ)) (m n o p : List ℕ) (at end : Session) → All HasNoLineFeed ls → All HasNoLineFeed ks
-    → flat_map ended ls ++ m ≡ flat_map ended ks ++ n → played s ls ≡ Some (o, at) → played s ks ≡ Some (p, end) → Stuck at m
+no_further : (s : SessionState) (ls ks : List (List ℕ)) (m n : List ℕ) (o p : List (List ℕ)) (at end : SessionState) → All HasNoLineFeed ls → All HasNoLineFeed ks
+    → flat_map ended ls ++ m ≡ flat_map ended ks ++ n → play_lines s ls ≡ Some (o, at) → play_lines s ks ≡ Some (p, end) → Stuck at m
     → (extra : List (List ℕ)) × (ls ≡ ks ++ extra) × (n ≡ flat_map ended extra ++ m)
 no_further s ls [] m n o p at end h g e f q stuck = (ls, refl, sym e)
 no_further s [] (k ∷ ks) m n o p at end h g e f q stuck =
     let first = first_played s k ks p end q in
-    absurd (stuck_line s m k (flat_map ended ks ++ n) first.0.0 first.0.1 (subst (λ (t : Session). Stuck t m) (sym (last_played s o at f)) stuck) (each_head k ks g)
+    absurd (stuck_line s m k (flat_map ended ks ++ n) first.0.0 first.0.1 (subst (λ (t : SessionState). Stuck t m) (sym (last_played s o at f)) stuck) (each_head k ks g)
     (e ∙ regroup k ks n) first.1)
 no_further s (l ∷ ls) (k ∷ ks) m n o p at end h g e f q stuck =
     let one = first_played s l ls o at f in
     let two = first_played s k ks p end q in
     let same = first_line_same l k (flat_map ended ls ++ m) (flat_map ended ks ++ n) (each_head l ls h) (each_head k ks g) (sym (regroup l ls m) ∙ e ∙ regroup k ks n) in
-    let next : one.0 ≡ two.0 = some_is one.0 two.0 (sym one.1 ∙ ap (line_played s) same.0 ∙ two.1) in
-    let rest : played one.0.1 ks ≡ Some (two.2.0, two.2.1) = subst (λ (x : List ℕ × Session). played x.1 ks ≡ Some (two.2.0, two.2.1)) (sym next) two.3 in
-    let more = no_further one.0.1 ls ks m n one.2.0 two.2.0 one.2.1 two.2.1 (each_tail l ls h) (each_tail k ks g) same.1 one.3 rest (subst (λ (t : Session). Stuck t m) (sym one.4) stuck) in
+    let next : one.0 ≡ two.0 = some_is one.0 two.0 (sym one.1 ∙ ap (play_line s) same.0 ∙ two.1) in
+    let rest : play_lines one.0.1 ks ≡ Some (two.2.0, two.2.1) = subst (λ (x : Played). play_lines x.1 ks ≡ Some (two.2.0, two.2.1)) (sym next) two.3 in
+    let more = no_further one.0.1 ls ks m n one.2.0 two.2.0 one.2.1 two.2.1 (each_tail l ls h) (each_tail k ks g) same.1 one.3 rest (subst (λ (t : SessionState). Stuck t m) (sym one.4) stuck) in
     (more.0, ap (λ (t : List (List ℕ)). l ∷ t) more.1 ∙ ap (λ (t : List ℕ). t ∷ (ks ++ more.0)) same.0, more.2)
 
 further : (r q : Run) (input : List ℕ) → IsRun r input → IsRun q input → IsBad r → (extra : List (List ℕ)) × (r.lines ≡ q.lines ++ extra) × (q.more ≡ flat_map ended extra ++ r.more)
 further r q input run other bad =
-    no_further first_session r.lines q.lines r.more q.more r.out q.out r.session q.session run.each other.each (sym run.parts ∙ other.parts) run.replies other.replies bad
+    no_further first_session r.lines q.lines r.more q.more r.replies q.replies r.session q.session run.each other.each (sym run.parts ∙ other.parts) run.answers other.answers bad
 
 pub no_script : (r : Run) (input : List ℕ) → IsRun r input → IsBad r → IsScript input → ⊥
 no_script r input run bad script =

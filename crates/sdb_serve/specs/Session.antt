@@ -15,7 +15,7 @@ use Rattle.sdb_script.specs.declared.LineReply.TheVariants as replies
 use Rattle.sdb_serve.specs.Jobs.{after_import, import_reply, read_reply, root_reply}
 
 -- what is known after some lines
-pub record Session : Type 0 where
+pub record SessionState : Type 0 where
   -- whether `new` was read
   pub begun : Bool
   -- the pruning window that genesis named; 0 before
@@ -25,44 +25,44 @@ pub record Session : Type 0 where
   -- the bytes of the lines so far, line feeds included
   pub read : ℕ
 
-abbrev pub first_session : Session
+abbrev pub first_session : SessionState
 first_session = record { begun = false; window = 0; blocks = []; read = 0 }
 
 -- one job: its reply, and the blocks after it
-abbrev pub job_answered : List Block → Task → Option (Reply × List Block)
-job_answered blocks (Read id key) = Some (read_reply (state_of blocks id) key, blocks)
-job_answered blocks (Root id) = Some (root_reply (state_of blocks id), blocks)
-job_answered blocks (Import b) = option_map (λ reply. (reply, after_import blocks b reply)) (import_reply blocks b)
+abbrev pub answer_job : List Block → Task → Option (Reply × List Block)
+answer_job blocks (Read id key) = Some (read_reply (state_of blocks id) key, blocks)
+answer_job blocks (Root id) = Some (root_reply (state_of blocks id), blocks)
+answer_job blocks (Import b) = option_map (λ reply. (reply, after_import blocks b reply)) (import_reply blocks b)
 
--- A line's reply, and what is known after it; none where the line may not stand here: the first line that is
+-- A line's reply, and what is known after it; none where the line may not be here: the first line that is
 -- neither empty nor a comment is `new`, the second `genesis`, and no later line is either.
-unfoldable pub answered : Session → Line → Option (Option LineReply × Session)
-answered s lines.Blank = Some (None, s)
-answered s (lines.New base) = if s.begun then None else Some (Some replies.New, record s { begun = true })
-answered s (lines.Genesis window b) =
+unfoldable pub answer : SessionState → Line → Option (Option LineReply × SessionState)
+answer s lines.Blank = Some (None, s)
+answer s (lines.New base) = if s.begun then None else Some (Some replies.New, record s { begun = true })
+answer s (lines.Genesis window b) =
     if s.begun && (length s.blocks == 0) then Some (Some replies.Genesis, record s { window = window; blocks = b ∷ [] }) else None
-answered s (lines.Job task) =
+answer s (lines.Job task) =
     if length s.blocks == 0 then None
-    else option_map (λ a. (Some (replies.Job a.0), record s { blocks = a.1 })) (job_answered s.blocks task)
+    else option_map (λ a. (Some (replies.Job a.0), record s { blocks = a.1 })) (answer_job s.blocks task)
 
--- a reply's line
-abbrev pub reply_line : Option LineReply → List ℕ
-reply_line None = []
-reply_line (Some reply) = reply_text reply ++ 10 ∷ []
+-- the line of a reply, one piece for the sink; no reply has none
+abbrev pub reply_lines : Option LineReply → List (List ℕ)
+reply_lines None = []
+reply_lines (Some reply) = (reply_text reply ++ 10 ∷ []) ∷ []
 
 -- at most so many bytes of a script
 abbrev pub most_bytes : ℕ
 most_bytes = 2 ^ 40
 
--- The text that a line is answered, and what is known after it; none where it isn't in the grammar, may not stand
--- here, or takes the script past its most bytes.
-unfoldable pub line_played : Session → List ℕ → Option (List ℕ × Session)
-line_played s text =
+-- A line's reply lines, one or none, and what is known after it; no answer where it isn't in the grammar, may not
+-- be here, or takes the script past its most bytes.
+unfoldable pub play_line : SessionState → List ℕ → Option (List (List ℕ) × SessionState)
+play_line s text =
     if nat_lt most_bytes (s.read + (length text + 1)) then None
-    else option_and_then (λ line. option_map (λ a. (reply_line a.0, record a.1 { read = s.read + (length text + 1) })) (answered s line))
+    else option_and_then (λ line. option_map (λ a. (reply_lines a.0, record a.1 { read = s.read + (length text + 1) })) (answer s line))
     (line_of text)
 
 -- the same for lines, one after another
-unfoldable pub played : Session → List (List ℕ) → Option (List ℕ × Session)
-played s [] = Some ([], s)
-played s (text ∷ texts) = option_and_then (λ a. option_map (λ b. (a.0 ++ b.0, b.1)) (played a.1 texts)) (line_played s text)
+unfoldable pub play_lines : SessionState → List (List ℕ) → Option (List (List ℕ) × SessionState)
+play_lines s [] = Some ([], s)
+play_lines s (text ∷ texts) = option_and_then (λ a. option_map (λ b. (a.0 ++ b.0, b.1)) (play_lines a.1 texts)) (play_line s text)

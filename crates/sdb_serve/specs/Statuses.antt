@@ -1,8 +1,18 @@
--- The exit status of a process, by how its run ended.
+-- How a run ends: its status, by the cause for which it stopped.
 use Rattle.std.specs.Prelude.{ℕ}
+use Rattle.sdb_serve.specs.declared.cause.Cause.{Cause}
+use Rattle.sdb_serve.specs.declared.cause.Cause.TheVariants as causes
 use Rattle.sdb_serve.specs.declared.status.Status.{Status}
 use Rattle.sdb_serve.specs.declared.status.Status.TheVariants.{Done, Usage, Script, SourceFault, SinkFault, NoMemory}
 
+-- the status of a run that stopped for this cause, unless the sink failed
+abbrev pub status_of : Cause → Status
+status_of causes.End = Done
+status_of causes.BadLine = Script
+status_of causes.Source = SourceFault
+status_of causes.Memory = NoMemory
+
+-- the exit status of a process
 abbrev pub status_code : Status → ℕ
 status_code Done = 0
 status_code Usage = 2

@@ -13,9 +13,9 @@ use std::collections::BTreeMap;
 // at most so many blocks have one number
 const MOST_SIBLINGS: u32 = 32;
 
-/// What is kept of one block.
+/// A block's number and state.
 #[derive(Drop)]
-pub(crate) struct Kept {
+pub(crate) struct BlockEntry {
     number: u64,
     state: StateMap,
 }
@@ -24,18 +24,18 @@ pub(crate) struct Kept {
 #[derive(Drop)]
 pub(crate) struct BlockMap {
     alloc: Global,
-    blocks: BTreeMap<BlockId, Kept>,
+    blocks: BTreeMap<BlockId, BlockEntry>,
     // how many blocks have each number
     levels: Vec<u32>,
 }
 
 impl BlockMap {
     ghost use Rattle.std.specs.BTreeMap.{IsUnchanged, Updates};
-    ghost use Rattle.sdb_serve.specs.Blocks.{Keeps, id_cmp, with_level};
+    ghost use Rattle.sdb_serve.specs.inner.Blocks.{RepresentsBlocks, id_cmp, with_level};
 
     /// No blocks.
     pub(crate) fn new(alloc: Global) -> BlockMap
-        ensures { Keeps result [] }
+        ensures { RepresentsBlocks result [] }
     {
         BlockMap {
             alloc,
@@ -46,7 +46,7 @@ impl BlockMap {
 
     /// Whether no block was accepted.
     pub(crate) fn is_empty(&self) -> bool
-        ensures { (blocks : List Block) → Keeps self.now blocks → (IsTrue result ↔ (blocks ≡ [])) }
+        ensures { (blocks : List Block) → RepresentsBlocks self.now blocks → (IsTrue result ↔ (blocks ≡ [])) }
     {
         self.levels.is_empty()
     }
@@ -54,23 +54,23 @@ impl BlockMap {
     /// Accepts genesis, where no block was accepted. An `Err` leaves the blocks as they were.
     pub(crate) fn genesis(&mut self, block: &Block) -> Result<(), OutOfMemory>
         requires { All IsChange block.now.changes }
-        ensures ok { Keeps self.old [] → OnOk result (Keeps self.new (block.now ∷ [])) }
-        ensures err { (blocks : List Block) → Keeps self.old blocks → OnErr result (Keeps self.new blocks) }
+        ensures ok { RepresentsBlocks self.old [] → OnOk result (RepresentsBlocks self.new (block.now ∷ [])) }
+        ensures err { (blocks : List Block) → RepresentsBlocks self.old blocks → OnErr result (RepresentsBlocks self.new blocks) }
     {
         let none = StateMap::new(self.alloc);
         let state = none.with_changes(self.alloc, block.changes.as_slice())?;
-        self.keep(block.id, Kept { number: 0, state }, 1)
+        self.add_entry(block.id, BlockEntry { number: 0, state }, 1)
     }
 
     /// The reply to a read of a key in a block's state.
     pub(crate) fn read(&self, id: &BlockId, key: &Bytes) -> Result<Reply, OutOfMemory>
-        ensures { (blocks : List Block) → Keeps self.now blocks
+        ensures { (blocks : List Block) → RepresentsBlocks self.now blocks
             → IfOk result (λ reply. reply ≡ read_reply (state_of blocks id.now) key.now) }
     {
-        let Some(kept) = self.blocks.get(id) else {
+        let Some(entry) = self.blocks.get(id) else {
             return Ok(Reply::Refused(Refusal::UnknownBlock));
         };
-        match kept.state.get(key) {
+        match entry.state.get(key) {
             Some(value) => Ok(Reply::Value(value.copy(self.alloc)?)),
             None => Ok(Reply::Nothing),
         }
@@ -78,11 +78,11 @@ impl BlockMap {
 
     /// The reply that is the root of a block's state.
     pub(crate) fn root(&self, id: &BlockId) -> Result<Reply, OutOfMemory>
-        ensures { (blocks : List Block) → Keeps self.now blocks
+        ensures { (blocks : List Block) → RepresentsBlocks self.now blocks
             → IfOk result (λ reply. reply ≡ root_reply (state_of blocks id.now)) }
     {
         match self.blocks.get(id) {
-            Some(kept) => Ok(Reply::Root(kept.state.root(self.alloc)?)),
+            Some(entry) => Ok(Reply::Root(entry.state.root(self.alloc)?)),
             None => Ok(Reply::Refused(Refusal::UnknownBlock)),
         }
     }
@@ -91,11 +91,11 @@ impl BlockMap {
     /// many blocks as it may have. An `Err` leaves the blocks as they were.
     pub(crate) fn import(&mut self, block: &Block) -> Result<Option<Reply>, OutOfMemory>
         requires { All IsChange block.now.changes }
-        ensures answer { (blocks : List Block) → Keeps self.old blocks
+        ensures answer { (blocks : List Block) → RepresentsBlocks self.old blocks
             → IfOk result (λ reply. reply ≡ import_reply blocks block.now) }
-        ensures after { (blocks : List Block) → Keeps self.old blocks
-            → IfOk result (λ reply. Keeps self.new (blocks_after blocks block.now reply)) }
-        ensures err { (blocks : List Block) → Keeps self.old blocks → OnErr result (Keeps self.new blocks) }
+        ensures after { (blocks : List Block) → RepresentsBlocks self.old blocks
+            → IfOk result (λ reply. RepresentsBlocks self.new (blocks_after blocks block.now reply)) }
+        ensures err { (blocks : List Block) → RepresentsBlocks self.old blocks → OnErr result (RepresentsBlocks self.new blocks) }
     {
         let Some(parent) = self.blocks.get(&block.parent) else {
             return Ok(Some(Reply::Refused(Refusal::UnknownParent)));
@@ -105,19 +105,19 @@ impl BlockMap {
         }
         // there are more levels than this number, so that the sum is exact
         let number = parent.number.saturating_add(1);
-        let siblings = self.count_at(number);
+        let siblings = self.siblings_at(number);
         if siblings >= MOST_SIBLINGS {
             return Ok(None);
         }
         let state = parent
             .state
             .with_changes(self.alloc, block.changes.as_slice())?;
-        self.keep(block.id, Kept { number, state }, siblings + 1)?;
+        self.add_entry(block.id, BlockEntry { number, state }, siblings + 1)?;
         Ok(Some(Reply::Imported(number)))
     }
 
     /// How many blocks have a number.
-    fn count_at(&self, number: u64) -> u32
+    fn siblings_at(&self, number: u64) -> u32
         ensures { result ≡ slice_index self.now.levels.items number }
     {
         let level = number as usize;
@@ -128,16 +128,16 @@ impl BlockMap {
         }
     }
 
-    /// Keeps what is kept of a block under its id, and how many blocks then have its number. An `Err` changes
+    /// Adds a block's entry under its id, and sets how many blocks then have its number. An `Err` changes
     /// nothing.
-    fn keep(&mut self, id: BlockId, kept: Kept, count: u32) -> Result<(), OutOfMemory>
-        ensures added { OnOk result (Updates id_cmp self.old.blocks self.new.blocks id (Some kept)) }
-        ensures levels { OnOk result (self.new.levels.items ≡ with_level self.old.levels.items kept.number count) }
+    fn add_entry(&mut self, id: BlockId, entry: BlockEntry, count: u32) -> Result<(), OutOfMemory>
+        ensures added { OnOk result (Updates id_cmp self.old.blocks self.new.blocks id (Some entry)) }
+        ensures levels { OnOk result (self.new.levels.items ≡ with_level self.old.levels.items entry.number count) }
         ensures err { OnErr result (IsUnchanged self.old.blocks self.new.blocks × (self.new.levels.items ≡ self.old.levels.items)) }
     {
-        let level = kept.number as usize;
+        let level = entry.number as usize;
         self.levels.reserve(1)?;
-        self.blocks.insert(id, kept)?;
+        self.blocks.insert(id, entry)?;
         if level < self.levels.len() {
             self.levels[level] = count;
         } else {

@@ -1,10 +1,13 @@
-ghost use Rattle.std.specs.Prelude.{◌≡◌, ◌≢◌, ◌⊎◌, ◌↔◌, ◌<◌, ◌≤◌, ◌^◌, ℕ, List, [], Some, IsTrue, IfOk, codes};
-ghost use Rattle.sdb_io.specs.Faults.{Rose};
-ghost use Rattle.sdb_serve.specs.Runs.{IsFirstBad, IsRunOf, IsScript, ended, last_line, script_words};
-ghost use Rattle.sdb_serve.specs.Steps.{Gets, GetsPrefix, IsClosed};
+ghost use Rattle.std.specs.Prelude.{◌≡◌, ◌≢◌, ◌⊎◌, ◌↔◌, ◌<◌, ◌≤◌, ◌^◌, ℕ, Bool, true, false, List, [], ◌∷◌, Some, IsTrue, IfOk, codes};
+ghost use Rattle.sdb_io.specs.Faults.{CountsFault, Rose};
+ghost use Rattle.sdb_io.specs.Output.{Gets, GetsPrefix};
+ghost use Rattle.sdb_serve.specs.Runs.{IsFirstBad, IsRunOf, IsScript, last_line, script_words, usage_line};
+ghost use Rattle.sdb_serve.specs.Statuses.{status_of};
+ghost use Rattle.sdb_serve.specs.inner.Steps.{CountsWhere, IsClosed, IsLastCause};
 
-use crate::player::Player;
+use crate::cause::{Cause, Stop};
 use crate::serve::read_lines;
+use crate::session::Session;
 use crate::status::Status;
 use sdb_base::Words;
 use sdb_io::{Sink, Source};
@@ -20,10 +23,10 @@ fn is_script(words: &Words) -> bool
     }
 }
 
-/// The last line of status 3, where so many lines were answered.
-fn script_line(alloc: Global, lines: u64) -> Result<Vec<u8>, AllocError>
+/// The last line for a bad line, where so many lines were answered.
+fn stop_line(alloc: Global, lines: u64) -> Result<Vec<u8>, AllocError>
     requires { lines < 2 ^ 63 }
-    ensures { IfOk result (λ text. text.items ≡ last_line Status.Script lines) }
+    ensures { IfOk result (λ text. last_line Cause.BadLine lines ≡ text.items ∷ []) }
 {
     let number = lines + 1;
     let digits = number.to_string(alloc)?;
@@ -34,13 +37,11 @@ fn script_line(alloc: Global, lines: u64) -> Result<Vec<u8>, AllocError>
 }
 
 /// Writes the last line of a status, and answers the status; where the sink fails, it is that.
-fn write_last<K: Sink>(sink: &mut K, status: Status, text: &[u8]) -> Status
+fn put_last<K: Sink>(sink: &mut K, status: Status, text: &[u8]) -> Status
     requires { status ≢ Status.SinkFault }
-    ensures written { result ≡ status → Gets (K.got sink.old) (K.got sink.new) text.now }
-    ensures cut_off { result ≡ Status.SinkFault → GetsPrefix (K.got sink.old) (K.got sink.new) text.now }
-    ensures answer { (result ≡ status) ⊎ (result ≡ Status.SinkFault) }
-    ensures counted { K.fault_count sink.old ≤ K.fault_count sink.new }
-    ensures cause { result ≡ Status.SinkFault → Rose (K.fault_count sink.old) (K.fault_count sink.new) }
+    ensures put { ((result ≡ status) × Gets (K.got sink.old) (K.got sink.new) (text.now ∷ []))
+        ⊎ ((result ≡ Status.SinkFault) × GetsPrefix (K.got sink.old) (K.got sink.new) [] text.now) }
+    ensures counted { CountsWhere (result ≡ Status.SinkFault) (K.fault_count sink.old) (K.fault_count sink.new) }
 {
     match sink.put(text) {
         Ok(()) => status,
@@ -48,65 +49,70 @@ fn write_last<K: Sink>(sink: &mut K, status: Status, text: &[u8]) -> Status
     }
 }
 
-/// Writes the last line of a status, where so many lines were answered. For want of memory to make it the status is
-/// NoMemory.
-fn close<K: Sink>(alloc: Global, sink: &mut K, status: Status, lines: u64) -> Status
+/// Writes the last line for a cause, where so many lines were answered. For want of memory to make it the cause is
+/// that.
+fn close<K: Sink>(alloc: Global, sink: &mut K, cause: Cause, lines: u64) -> Status
     requires few { lines < 2 ^ 63 }
-    requires status { status ≢ Status.SinkFault }
-    ensures closed { IsClosed status lines result (K.got sink.old) (K.got sink.new) }
-    ensures counted { K.fault_count sink.old ≤ K.fault_count sink.new }
-    ensures cause { result ≡ Status.SinkFault → Rose (K.fault_count sink.old) (K.fault_count sink.new) }
+    ensures closed { (last : Cause) × IsLastCause cause last × IsClosed last lines result (K.got sink.old) (K.got sink.new) }
+    ensures counted { CountsWhere (result ≡ Status.SinkFault) (K.fault_count sink.old) (K.fault_count sink.new) }
 {
-    match status {
-        Status::Done => Status::Done,
-        Status::Usage => write_last(sink, status, b"stop 2\n"),
-        Status::Script => match script_line(alloc, lines) {
-            Ok(text) => write_last(sink, status, text.as_slice()),
-            Err(_) => write_last(sink, Status::NoMemory, b"stop 11\n"),
+    match cause {
+        Cause::End => Status::Done,
+        Cause::BadLine => match stop_line(alloc, lines) {
+            Ok(text) => put_last(sink, Status::Script, text.as_slice()),
+            Err(_) => put_last(sink, Status::NoMemory, b"stop 11\n"),
         },
-        Status::SourceFault => write_last(sink, status, b"stop 4\n"),
-        Status::SinkFault => Status::SinkFault,
-        Status::NoMemory => write_last(sink, status, b"stop 11\n"),
+        Cause::Source => put_last(sink, Status::SourceFault, b"stop 4\n"),
+        Cause::Memory => put_last(sink, Status::NoMemory, b"stop 11\n"),
     }
 }
 
 /// Carries out the script of a source, and writes a reply line for each line to a sink, and then the last line of the
 /// status.
 fn run_script<S: Source, K: Sink>(alloc: Global, source: &mut S, sink: &mut K) -> Status
-    ensures replies { (input : List ℕ) → S.left source.old ≡ Some input → IsRunOf result input (S.left source.new) (K.got sink.old) (K.got sink.new) }
+    ensures replies { (input : List ℕ) → S.left source.old ≡ Some input
+        → IsRunOf result input (S.left source.new) (K.got sink.old) (K.got sink.new) }
     ensures done { (input : List ℕ) → S.left source.old ≡ Some input → result ≡ Status.Done → S.left source.new ≡ Some [] }
-    ensures source { result ≡ Status.SourceFault → Rose (S.fault_count source.old) (S.fault_count source.new) }
-    ensures sink { result ≡ Status.SinkFault → Rose (K.fault_count sink.old) (K.fault_count sink.new) }
-    ensures counted { (S.fault_count source.old ≤ S.fault_count source.new) × (K.fault_count sink.old ≤ K.fault_count sink.new) }
+    ensures source { result ≢ Status.SinkFault
+        → CountsWhere (result ≡ Status.SourceFault) (S.fault_count source.old) (S.fault_count source.new) }
+    ensures one_fault { (failed : Bool) × CountsFault failed (S.fault_count source.old) (S.fault_count source.new) }
+    ensures sink { CountsWhere (result ≡ Status.SinkFault) (K.fault_count sink.old) (K.fault_count sink.new) }
     ensures not_usage { result ≡ Status.Usage → ⊥ }
 {
-    let mut player = Player::new(alloc);
-    match read_lines(alloc, &mut player, source, sink) {
-        Ok(()) => Status::Done,
-        Err(Status::SinkFault) => Status::SinkFault,
-        Err(status) => close(alloc, sink, status, player.lines()),
+    let mut session = Session::new(alloc);
+    match read_lines(alloc, &mut session, source, sink) {
+        Stop::SinkFault => Status::SinkFault,
+        Stop::Cause(cause) => close(alloc, sink, cause, session.lines()),
     }
 }
 
 /// Runs what the words ask for: the one word `script` alone reads a script from the source and writes a reply line for
 /// each of its lines to the sink. The status says how the run ended.
 pub fn run<S: Source, K: Sink>(alloc: Global, words: &Words, source: &mut S, sink: &mut K) -> Status
-    // Usage comes exactly where the words aren't the one word; where the sink fails at its last line, that is the status.
+    // Usage comes exactly where the words aren't the one word, and nothing is read then; where the sink fails at its
+    // last line, that is the status.
     ensures words { result ≡ Status.Usage → words.now ≢ script_words }
     ensures other_words { words.now ≢ script_words
-        → ((result ≡ Status.Usage) × Gets (K.got sink.old) (K.got sink.new) (ended (codes "stop 2")))
-        ⊎ ((result ≡ Status.SinkFault) × GetsPrefix (K.got sink.old) (K.got sink.new) (ended (codes "stop 2"))) }
+        → ((result ≡ Status.Usage) × Gets (K.got sink.old) (K.got sink.new) (usage_line ∷ []))
+        ⊎ ((result ≡ Status.SinkFault) × GetsPrefix (K.got sink.old) (K.got sink.new) [] usage_line) }
+    ensures unread { words.now ≢ script_words → S.left source.new ≡ S.left source.old }
 
-    // There are lines that were read and a run of them; the sink has got the text of that run and the status's last line.
+    // There are lines that were read and a run of them; the sink has got the reply lines of that run and the last line
+    // of the status, each by one call, and nothing else.
     ensures replies { words.now ≡ script_words → (input : List ℕ) → S.left source.old ≡ Some input
         → IsRunOf result input (S.left source.new) (K.got sink.old) (K.got sink.new) }
 
     // The source was read to its end.
     ensures done { (input : List ℕ) → S.left source.old ≡ Some input → result ≡ Status.Done → S.left source.new ≡ Some [] }
 
-    // Faults of the source and the sink come only by their counts.
-    ensures source { result ≡ Status.SourceFault → Rose (S.fault_count source.old) (S.fault_count source.new) }
-    ensures sink { result ≡ Status.SinkFault → Rose (K.fault_count sink.old) (K.fault_count sink.new) }
+    // The run stops at its first fault: a count of faults rises by one for the status that names it, and else none
+    // rises; but where the sink fails at the last line for a fault of the source, both rise.
+    ensures source { result ≡ Status.SourceFault → CountsFault true (S.fault_count source.old) (S.fault_count source.new) }
+    ensures sink { result ≡ Status.SinkFault → CountsFault true (K.fault_count sink.old) (K.fault_count sink.new) }
+    ensures no_source_fault { result ≢ Status.SourceFault → result ≢ Status.SinkFault
+        → CountsFault false (S.fault_count source.old) (S.fault_count source.new) }
+    ensures no_sink_fault { result ≢ Status.SinkFault → CountsFault false (K.fault_count sink.old) (K.fault_count sink.new) }
+    ensures one_fault { (failed : Bool) × CountsFault failed (S.fault_count source.old) (S.fault_count source.new) }
 
     // Where no count rose, a script is answered whole, and any other input up to its first bad line, whose number the
     // last line then names, unless memory ran out.
@@ -120,6 +126,6 @@ pub fn run<S: Source, K: Sink>(alloc: Global, words: &Words, source: &mut S, sin
     if is_script(words) {
         run_script(alloc, source, sink)
     } else {
-        close(alloc, sink, Status::Usage, 0)
+        put_last(sink, Status::Usage, b"stop 2\n")
     }
 }

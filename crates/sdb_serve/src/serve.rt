@@ -1,11 +1,11 @@
 ghost use Rattle.std.specs.Prelude.{◌≡◌, ◌≢◌, ◌⊎◌, ◌≤◌, ◌<◌, ◌+◌, ◌-◌, ℕ, List, [], ◌++◌, length, take, drop, slice_index, slice_range, Option, Some, None, MatchOption, IfOk, IfErr, OnOk, OnErr, IsErrOf, vec_len};
-ghost use Rattle.sdb_io.specs.Faults.{Rose};
-ghost use Rattle.sdb_serve.specs.Session.{Session, first_session};
-ghost use Rattle.sdb_serve.specs.Runs.{HasNoLineFeed, HasStopped, IsRun, Run};
-ghost use Rattle.sdb_serve.specs.Steps.{Halts, IsAt, IsHeld, LineAnswered, LineStops, PieceAnswered, Stands, StopsLine, StopsRun};
+ghost use Rattle.sdb_script.specs.Grammar.{most_in_line};
+ghost use Rattle.sdb_serve.specs.Session.{SessionState, first_session};
+ghost use Rattle.sdb_serve.specs.Runs.{BeginsWith, HasNoLineFeed, IsNear, IsRun, Run, Waits, most_taken};
+ghost use Rattle.sdb_serve.specs.inner.Steps.{CountsWhere, Halts, IsAt, LineAnswered, LineStops, PieceAnswered, Represents};
 
-use crate::player::{PlayFault, Player};
-use crate::status::Status;
+use crate::cause::{Cause, Stop};
+use crate::session::Session;
 use sdb_io::{Sink, Source};
 use sdb_script::MOST_IN_LINE;
 use std::alloc::{AllocError, Global};
@@ -23,91 +23,78 @@ fn line_feed(bytes: &[u8], from: usize) -> Option<usize>
     Some(from + at)
 }
 
-/// Answers one line, and writes its reply.
+/// Answers one line, and writes its reply by one call of the sink. A line without a reply writes nothing.
 fn answer_line<K: Sink>(
-    player: &mut Player,
+    session: &mut Session,
     line: &[u8],
     text: &mut Vec<u8>,
     sink: &mut K,
-) -> Result<(), Status>
-    ensures answered { (s : Session) → Stands player.old s → OnOk result (LineAnswered s line.now player.new (K.got sink.old) (K.got sink.new)) }
-    ensures stopped { (s : Session) → Stands player.old s → IfErr result (λ status. LineStops status s line.now (K.got sink.old) (K.got sink.new)) }
-    ensures lines { OnOk result (player.new.lines ≡ player.old.lines + 1) }
+) -> Result<(), Stop>
+    ensures answered { (s : SessionState) → Represents session.old s
+        → OnOk result (LineAnswered s line.now session.new (K.got sink.old) (K.got sink.new)) }
+    ensures stopped { (r : Run) (rest : List ℕ) → Represents session.old r.session → BeginsWith r.more line.now rest
+        → IfErr result (λ stop. LineStops stop r (K.got sink.old) (K.got sink.new)) }
+    ensures lines { OnOk result (session.new.lines ≡ session.old.lines + 1) }
     // A reply at which the sink failed is counted; nothing uses the count then.
-    ensures same_lines { IfErr result (λ status. status ≢ Status.SinkFault → player.new.lines ≡ player.old.lines) }
-    ensures read { OnOk result (player.new.read ≡ player.old.read + (length line.now + 1)) }
-    ensures counted { K.fault_count sink.old ≤ K.fault_count sink.new }
-    ensures cause { IsErrOf result Status.SinkFault → Rose (K.fault_count sink.old) (K.fault_count sink.new) }
-    ensures status { IfErr result StopsLine }
+    ensures same_lines { IfErr result (λ stop. stop ≢ Stop.SinkFault → session.new.lines ≡ session.old.lines) }
+    ensures read { OnOk result (session.new.read ≡ session.old.read + (length line.now + 1)) }
+    ensures counted { CountsWhere (IsErrOf result Stop.SinkFault) (K.fault_count sink.old) (K.fault_count sink.new) }
+    ensures of_line { IfErr result (λ stop. (stop ≢ Stop.Cause Cause.Source) × (stop ≢ Stop.Cause Cause.End)) }
 {
-    match player.play(line, text) {
-        Ok(()) => {}
-        Err(PlayFault::NotAnswered) => return Err(Status::Script),
-        Err(PlayFault::OutOfMemory) => return Err(Status::NoMemory),
-    }
+    session.play_line(line, text)?;
     let reply = text.as_slice();
-    if reply.is_empty() {
-        return Ok(());
+    if !reply.is_empty() {
+        sink.put(reply)?;
     }
-    match sink.put(reply) {
-        Ok(()) => Ok(()),
-        Err(_) => Err(Status::SinkFault),
-    }
+    Ok(())
 }
 
 /// Answers the lines that are ended in a piece of the input, and says how many of its bytes that took. No line feed
 /// is before `from`.
 fn answer_lines<K: Sink>(
-    player: &mut Player,
+    session: &mut Session,
     piece: &[u8],
     from: usize,
     text: &mut Vec<u8>,
     sink: &mut K,
-) -> Result<usize, Status>
+) -> Result<usize, Stop>
     requires within { from ≤ length piece.now }
-    ensures answered { (input rest : List ℕ) (r : Run) → HasNoLineFeed (take from piece.now) → IsAt r input player.old (piece.now ++ rest)
-        → IfOk result (λ used. PieceAnswered used piece.now rest r input player.new (K.got sink.old) (K.got sink.new)) }
-    ensures stopped { (input rest : List ℕ) (r : Run) (left : Option (List ℕ)) → HasNoLineFeed (take from piece.now)
-        → IsAt r input player.old (piece.now ++ rest) → IfErr result (λ status. Halts status r input player.new left (K.got sink.old) (K.got sink.new)) }
+    requires near { (from ≤ most_in_line) × (length piece.now ≤ from + most_taken) }
+    ensures answered { (input rest : List ℕ) (r : Run) → HasNoLineFeed (take from piece.now) → IsAt r input session.old (piece.now ++ rest)
+        → IfOk result (λ used. PieceAnswered used piece.now rest r input session.new (K.got sink.old) (K.got sink.new)) }
+    ensures stopped { (input rest : List ℕ) (r : Run) → HasNoLineFeed (take from piece.now) → IsAt r input session.old (piece.now ++ rest)
+        → IfErr result (λ stop. Halts stop r input session.new (Some rest) (K.got sink.old) (K.got sink.new)) }
     ensures none_left { HasNoLineFeed (take from piece.now) → IfOk result (λ used. HasNoLineFeed (drop used piece.now)) }
     ensures used { IfOk result (λ used. used ≤ length piece.now) }
-    ensures read { IfOk result (λ used. player.new.read ≡ player.old.read + used) }
-    ensures counted { K.fault_count sink.old ≤ K.fault_count sink.new }
-    ensures cause { IsErrOf result Status.SinkFault → Rose (K.fault_count sink.old) (K.fault_count sink.new) }
-    ensures status { IfErr result StopsLine }
+    ensures read { IfOk result (λ used. session.new.read ≡ session.old.read + used) }
+    ensures counted { CountsWhere (IsErrOf result Stop.SinkFault) (K.fault_count sink.old) (K.fault_count sink.new) }
+    ensures of_line { IfErr result (λ stop. (stop ≢ Stop.Cause Cause.Source) × (stop ≢ Stop.Cause Cause.End)) }
 {
     let mut start = 0;
     let mut seek = from;
     'lines: while let Some(end) = line_feed(piece, seek) {
-        match answer_line(player, &piece[start..end], text, sink) {
-            Ok(()) => {}
-            Err(status) => return Err(status),
-        }
+        answer_line(session, &piece[start..end], text, sink)?;
         start = end + 1;
         seek = start;
     }
     Ok(start)
 }
 
-/// Reads the source to its end, and answers each line. Where it stops before, it says by which status.
+/// Reads the source to its end, and answers each line, until a cause or the sink stops it.
 pub(crate) fn read_lines<S: Source, K: Sink>(
     alloc: Global,
-    player: &mut Player,
+    session: &mut Session,
     source: &mut S,
     sink: &mut K,
-) -> Result<(), Status>
-    ensures done { (input : List ℕ) (r : Run) → S.left source.old ≡ Some input → IsAt r input player.old input
-        → OnOk result (Halts Status.Done r input player.new (S.left source.new) (K.got sink.old) (K.got sink.new)) }
-    ensures stopped { (input : List ℕ) (r : Run) → S.left source.old ≡ Some input → IsAt r input player.old input
-        → IfErr result (λ status. Halts status r input player.new (S.left source.new) (K.got sink.old) (K.got sink.new)) }
-    ensures to_its_end { (input : List ℕ) → S.left source.old ≡ Some input → OnOk result (S.left source.new ≡ Some []) }
-    ensures counted { (S.fault_count source.old ≤ S.fault_count source.new) × (K.fault_count sink.old ≤ K.fault_count sink.new) }
-    ensures status { IfErr result StopsRun }
-    ensures source_cause { IsErrOf result Status.SourceFault → Rose (S.fault_count source.old) (S.fault_count source.new) }
-    ensures sink_cause { IsErrOf result Status.SinkFault → Rose (K.fault_count sink.old) (K.fault_count sink.new) }
+) -> Stop
+    ensures stopped { (input : List ℕ) (r : Run) → S.left source.old ≡ Some input → IsAt r input session.old input
+        → Halts result r input session.new (S.left source.new) (K.got sink.old) (K.got sink.new) }
+    ensures to_its_end { (input : List ℕ) → S.left source.old ≡ Some input → result ≡ Stop.Cause Cause.End → S.left source.new ≡ Some [] }
+    ensures source { CountsWhere (result ≡ Stop.Cause Cause.Source) (S.fault_count source.old) (S.fault_count source.new) }
+    ensures sink { CountsWhere (result ≡ Stop.SinkFault) (K.fault_count sink.old) (K.fault_count sink.new) }
 {
     let Ok(mut chunk) = zeros(alloc, CHUNK) else {
-        return Err(Status::NoMemory);
+        return Stop::Cause(Cause::Memory);
     };
     let mut pending: Vec<u8> = Vec::new(alloc);
     let mut text = Vec::new(alloc);
@@ -116,49 +103,51 @@ pub(crate) fn read_lines<S: Source, K: Sink>(
         match read_more(source, &mut chunk, &mut pending) {
             Ok(0) => {
                 if pending.len() == 0 {
-                    return Ok(());
+                    return Stop::Cause(Cause::End);
                 }
-                return Err(Status::Script);
+                return Stop::Cause(Cause::BadLine);
             }
             Ok(_) => {}
-            Err(status) => return Err(status),
+            Err(cause) => return Stop::Cause(cause),
         }
-        let used = match answer_lines(player, &pending, from, &mut text, sink) {
+        let used = match answer_lines(session, &pending, from, &mut text, sink) {
             Ok(used) => used,
-            Err(status) => return Err(status),
+            Err(stop) => return stop,
         };
         drop_front(&mut pending, used);
         if pending.len() > MOST_IN_LINE {
-            return Err(Status::Script);
+            return Stop::Cause(Cause::BadLine);
         }
     }
 }
 
-/// Asks the source once, and puts what it gives behind what is pending; 0 bytes are its end.
+/// Asks the source once, and puts what it gives after what is pending; 0 bytes are its end.
 fn read_more<S: Source>(
     source: &mut S,
     chunk: &mut Vec<u8>,
     pending: &mut Vec<u8>,
-) -> Result<usize, Status>
+) -> Result<usize, Cause>
     requires { 0 < vec_len chunk.old }
     ensures taken { (bytes : List ℕ) → S.left source.old ≡ Some bytes → IfOk result (λ n. (S.left source.new ≡ Some (drop n bytes))
         × (pending.new.items ≡ pending.old.items ++ take n bytes)) }
     ensures end { (bytes : List ℕ) → S.left source.old ≡ Some bytes → IfOk result (λ n. n ≡ 0 → bytes ≡ []) }
     ensures kept { OnOk result (take (vec_len pending.old) pending.new.items ≡ pending.old.items) }
-    ensures len { IfOk result (λ n. vec_len pending.new ≡ vec_len pending.old + n) }
+    ensures len { IfOk result (λ n. (vec_len pending.new ≡ vec_len pending.old + n) × (n ≤ vec_len chunk.old)) }
     ensures room { vec_len chunk.new ≡ vec_len chunk.old }
-    ensures status { IfErr result (λ status. (status ≡ Status.SourceFault) ⊎ (status ≡ Status.NoMemory)) }
-    ensures unread { IsErrOf result Status.SourceFault → S.left source.new ≡ S.left source.old }
-    ensures counted { S.fault_count source.old ≤ S.fault_count source.new }
-    ensures cause { IsErrOf result Status.SourceFault → Rose (S.fault_count source.old) (S.fault_count source.new) }
+    ensures cause { IfErr result (λ cause. (cause ≡ Cause.Source) ⊎ (cause ≡ Cause.Memory)) }
+    ensures unread { (bytes : List ℕ) → S.left source.old ≡ Some bytes → IsErrOf result Cause.Source → S.left source.new ≡ Some bytes }
+    // Where there is no memory, at most the chunk was taken.
+    ensures lost { (bytes : List ℕ) → S.left source.old ≡ Some bytes → IsErrOf result Cause.Memory
+        → (n : ℕ) × (n ≤ vec_len chunk.old) × (S.left source.new ≡ Some (drop n bytes)) }
+    ensures counted { CountsWhere (IsErrOf result Cause.Source) (S.fault_count source.old) (S.fault_count source.new) }
 {
     let count = match source.take(chunk.as_mut_slice()) {
         Ok(count) => count,
-        Err(_) => return Err(Status::SourceFault),
+        Err(_) => return Err(Cause::Source),
     };
     match pending.extend_from_slice(&chunk[..count]) {
         Ok(()) => Ok(count),
-        Err(_) => Err(Status::NoMemory),
+        Err(_) => Err(Cause::Memory),
     }
 }
 

@@ -23,7 +23,7 @@ impl Model for StateMap {
     ghost use Rattle.std.specs.Coded.{coded_list, coded_ℕ};
     ghost use Rattle.std.specs.FinMap as map;
     ghost use Rattle.sdb_model.specs.State.{State};
-    ghost use Rattle.sdb_serve.specs.Lengths.{AllShort};
+    ghost use Rattle.sdb_serve.specs.inner.Lengths.{AllShort};
 
     ghost Value = { State };
 

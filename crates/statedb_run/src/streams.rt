@@ -1,9 +1,9 @@
-ghost use Rattle.std.specs.Prelude.{◌≡◌, ℕ, List, Option, None, length};
+ghost use Rattle.std.specs.Prelude.{◌≡◌, ℕ, List, [], ◌++◌, take, drop, true, Option, None, Some, length};
 
 use sdb_io::{Sink, SinkFault, Source, SourceFault};
 use std::io::{Read, Write};
 
-/// Standard input: a source that doesn't tell its bytes.
+/// Standard input as a source. What it has left is what the reader has, where that can be observed.
 #[derive(Drop)]
 pub struct Stdin<R> {
     reader: R,
@@ -20,9 +20,7 @@ impl<R: Read> Stdin<R> {
 }
 
 impl<R: Read> Source for Stdin<R> {
-    ghost use Rattle.std.specs.Prelude.{None};
-
-    ghost left = { λ _. None };
+    ghost left = { λ s. R.Read.remaining s.reader };
 
     ghost fault_count = { λ s. s.faults };
 
@@ -41,7 +39,8 @@ impl<R: Read> Source for Stdin<R> {
     }
 }
 
-/// Standard output: a sink that doesn't tell its bytes.
+/// Standard output as a sink. The bytes that it has got are those that the writer holds, where that can be observed;
+/// its pieces can't be.
 #[derive(Drop)]
 pub struct Stdout<W> {
     writer: W,
@@ -56,15 +55,19 @@ impl<W: Write> Stdout<W> {
         Stdout { writer, faults: 0 }
     }
 
-    /// Writes all of the bytes, in as many pieces as it takes; false where a piece failed or none of it was taken.
+    /// Writes all of the bytes, by as many calls as it takes; false where one failed or took nothing, and a prefix was
+    /// written then.
     fn write_whole(&mut self, bytes: &[u8]) -> bool
-        ensures { self.new.faults ≡ self.old.faults }
+        ensures counts { self.new.faults ≡ self.old.faults }
+        ensures written { (before : List ℕ) → W.contents self.old.writer ≡ Some before
+            → (n : ℕ) × (W.contents self.new.writer ≡ Some (before ++ take n bytes.now)) × (result ≡ true → take n bytes.now ≡ bytes.now) }
     {
         let mut rest = bytes;
         while !rest.is_empty() {
             match self.writer.write(rest) {
-                Ok(0) | Err(_) => return false,
+                Ok(0) => return false,
                 Ok(count) => rest = &rest[count..],
+                Err(_) => return false,
             }
         }
         true
@@ -73,8 +76,9 @@ impl<W: Write> Stdout<W> {
 
 impl<W: Write> Sink for Stdout<W> {
     ghost use Rattle.std.specs.Prelude.{None};
+    ghost use Rattle.sdb_io.specs.Output.{Output};
 
-    ghost got = { λ _. None };
+    ghost got = { λ k. record { bytes = W.Write.contents k.writer; pieces = None } };
 
     ghost fault_count = { λ k. k.faults };
 

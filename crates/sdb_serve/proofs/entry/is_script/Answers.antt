@@ -1,5 +1,5 @@
 use Rattle.std.proofs.Common.{◌≡◌, ◌∙◌, sym, ap, List, [], ◌∷◌, ℕ}
-use Rattle.sdb_serve.proofs.Closing.{bytes_same, first_is, one_item, same_bytes}
+use Rattle.sdb_serve.proofs.Words.{bytes_same, first_is, one_item, same_bytes}
 use Rattle.sdb_serve.proofs.entry.is_script.Goals as goal
 
 pub returns-in-len1 : goal.returns-in-len1

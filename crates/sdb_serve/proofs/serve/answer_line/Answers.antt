@@ -1,24 +1,32 @@
-use Rattle.std.proofs.Common.{◌≡◌, ◌∙◌, sym, append-nil, []}
-use Rattle.sdb_serve.proofs.Answering.{no_items}
+use Rattle.std.proofs.Common.{◌≡◌, ◌∙◌, ℕ, List, [], ◌∷◌, sym, ap, Some}
+use Rattle.std.proofs.lemmas.Result.{err_from_is_err_and}
+use Rattle.sdb_serve.specs.inner.Pieces.{as_piece}
+use Rattle.sdb_serve.proofs.Answering.{no_piece, some_piece}
+use Rattle.sdb_serve.proofs.Outputs.{gets_nothing}
 use Rattle.sdb_serve.proofs.serve.answer_line.Goals as goal
 
 -- a line without a reply leaves the sink as it was
-pub returns-then-is_empty-clause-answered : goal.returns-then-is_empty-clause-answered
-returns-then-is_empty-clause-answered g c = λ s h.
-    let a = c.in-Ok.ensures.answer s h in
-    let none : c.play.new.text.items ≡ [] = sym c.as_slice-reply.ensures.value ∙ no_items c.as_slice-reply.result.now (sym c.is_empty.ensures ∙ c.if-is_empty.true) in
-    (c.play.new.text.items, a.0, a.1, a.2, λ before told. rw (none, append-nil before) told)
+pub returns-else-not-is_empty-clause-answered : goal.returns-else-not-is_empty-clause-answered
+returns-else-not-is_empty-clause-answered g c = λ s h.
+    let a = c.in_ok-play_line.ensures.answer s h in
+    let none : as_piece c.play_line.new.text.items ≡ [] =
+    ap as_piece (sym c.as_slice-reply.ensures.value) ∙ no_piece c.as_slice-reply.result.now (sym c.is_empty.ensures ∙ c.if-not-is_empty.false) in
+    ([], a.0, a.1 ∙ ap (λ (t : List (List ℕ)). Some (t, a.0)) none, a.2, gets_nothing _)
 
-pub returns-in-Ok-put-clause-answered : goal.returns-in-Ok-put-clause-answered
-returns-in-Ok-put-clause-answered g c = λ s h.
-    let a = c.in-Ok.ensures.answer s h in
-    (c.play.new.text.items, a.0, a.1, a.2, λ before told. rw (← c.as_slice-reply.ensures.value) (c.in-Ok-put.ensures.ok before told))
+pub returns-in_ok-put-clause-answered : goal.returns-in_ok-put-clause-answered
+returns-in_ok-put-clause-answered g c = λ s h.
+    let a = c.in_ok-play_line.ensures.answer s h in
+    let reply : List ℕ = c.as_slice-reply.result.now in
+    let one : as_piece c.play_line.new.text.items ≡ reply ∷ [] =
+    ap as_piece (sym c.as_slice-reply.ensures.value) ∙ some_piece reply (sym c.is_empty.ensures ∙ c.if-not-is_empty.true) in
+    (reply ∷ [], a.0, a.1 ∙ ap (λ (t : List (List ℕ)). Some (t, a.0)) one, a.2, c.in_ok-put.ensures.ok)
 
-pub returns-in-Err-clause-stopped : goal.returns-in-Err-clause-stopped
-returns-in-Err-clause-stopped g c = λ s h.
-    let a = c.in-Ok.ensures.answer s h in (
-      c.play.new.text.items,
-      a.0,
-      a.1,
-      λ before told. let p = c.in-Err.ensures.err before told in (p.0, rw (← c.as_slice-reply.ensures.value) p.1),
-    )
+pub returns-in_err-put-clause-stopped : goal.returns-in_err-put-clause-stopped
+returns-in_err-put-clause-stopped g c =
+    let p = err_from_is_err_and c.from_residual-in_err-put.result c.from_residual-in_err-put.ensures.1 in
+    rw (p.1, p.2) (λ r rest h begins.
+        let a = c.in_ok-play_line.ensures.answer r.session h in
+        let reply : List ℕ = c.as_slice-reply.result.now in
+        let one : as_piece c.play_line.new.text.items ≡ reply ∷ [] =
+        ap as_piece (sym c.as_slice-reply.ensures.value) ∙ some_piece reply (sym c.is_empty.ensures ∙ c.if-not-is_empty.true) in
+        (reply, (c.args.line.now, rest, a.0, begins, a.1 ∙ ap (λ (t : List (List ℕ)). Some (t, a.0)) one), c.in_err-put.ensures.err))

@@ -1,6 +1,6 @@
 use Rattle.std.proofs.Common.{◌≡◌, ℕ, ◌+◌, ◌-◌, ◌^◌, ◌≤◌, List, vec_len, Some}
 use Rattle.sdb_serve.specs.Runs.{HasNoLineFeed, Run}
-use Rattle.sdb_serve.specs.Steps.{IsAt, PieceAnswered}
+use Rattle.sdb_serve.specs.inner.Steps.{IsAt, PieceAnswered}
 use Rattle.sdb_serve.proofs.serve.read_lines.Given as goal
 
 -- what was read and not used is pending: less than a line
@@ -13,11 +13,11 @@ invariant-chunks g l =
       short : vec_len l.pending ≤ 16777216;
       clear : HasNoLineFeed l.pending.items;
       told : (input : List ℕ) → left l.fn.source ≡ Some input → (rest : List ℕ) × (left l.source ≡ Some rest);
-      answered : (input rest : List ℕ) (r : Run) → left l.fn.source ≡ Some input → left l.source ≡ Some rest → IsAt r input l.fn.player input
-          → PieceAnswered 0 l.pending.items rest r input l.player (got l.fn.sink) (got l.sink);
-      source : g.S.Source.fault_count l.fn.source ≤ g.S.Source.fault_count l.source;
-      sink : g.K.Sink.fault_count l.fn.sink ≤ g.K.Sink.fault_count l.sink;
+      answered : (input rest : List ℕ) (r : Run) → left l.fn.source ≡ Some input → left l.source ≡ Some rest → IsAt r input l.fn.session input
+          → PieceAnswered 0 l.pending.items rest r input l.session (got l.fn.sink) (got l.sink);
+      source : g.S.Source.fault_count l.source ≡ g.S.Source.fault_count l.fn.source;
+      sink : g.K.Sink.fault_count l.sink ≡ g.K.Sink.fault_count l.fn.sink;
     }
 
 abbrev pub decreases-chunks : goal.decreases-chunks
-decreases-chunks g l = 2 ^ 41 - (l.player.read + vec_len l.pending)
+decreases-chunks g l = 2 ^ 41 - (l.session.read + vec_len l.pending)

@@ -1,5 +1,5 @@
-use Rattle.sdb_serve.proofs.Keeping.{keeps_nothing}
+use Rattle.sdb_serve.proofs.Keeping.{represents_nothing}
 use Rattle.sdb_serve.proofs.blocks.BlockMap.new.Goals as goal
 
 pub returns : goal.returns
-returns c = keeps_nothing _ c.new.ensures.empty c.new-2.ensures.items
+returns c = represents_nothing _ c.new.ensures.empty c.new-2.ensures.items

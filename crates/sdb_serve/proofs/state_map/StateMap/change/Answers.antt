@@ -8,7 +8,7 @@ use Rattle.sdb_model.specs.State.{with_key}
 use Rattle.sdb_base.specs.declared.Change.{Change}
 use Rattle.sdb_model.specs.Limits.{most_in_value}
 use Rattle.sdb_script.specs.LineTexts.{IsChange}
-use Rattle.sdb_serve.specs.Lengths.{AllShort}
+use Rattle.sdb_serve.specs.inner.Lengths.{AllShort}
 use Rattle.sdb_serve.proofs.Lasting.{short_inserted, short_removed}
 use Rattle.sdb_serve.proofs.Entries.{one_changed}
 use Rattle.sdb_serve.proofs.state_map.StateMap.change.Goals as goal

@@ -1,4 +1,4 @@
--- What is kept of the accepted blocks.
+-- The map of the accepted blocks.
 use Rattle.std.specs.Prelude.{◌≡◌, ◌<◌, ℕ, nat_lt, List, [], ◌∷◌, ◌++◌, slice_index, slice_set, length, if◌then◌else◌, Some}
 use Rattle.std.specs.Option.{option_map}
 use Rattle.std.specs.Ordering.{nat_cmp}
@@ -9,7 +9,7 @@ use Rattle.sdb_base.specs.declared.Block.{Block}
 use Rattle.sdb_base.specs.declared.BlockId.{BlockId}
 use Rattle.sdb_model.specs.Blocks.{AreBlocks, count_at, number_of, state_of}
 use Rattle.sdb_serve.specs.declared.blocks.BlockMap.{BlockMap}
-use Rattle.sdb_serve.specs.declared.blocks.Kept.{Kept}
+use Rattle.sdb_serve.specs.declared.blocks.BlockEntry.{BlockEntry}
 
 -- ids in the order of their bytes
 abbrev pub id_cmp : BlockId → BlockId → Ordering
@@ -19,12 +19,12 @@ id_cmp a b = slice_cmp nat_cmp a.0 b.0
 abbrev pub with_level : List ℕ → ℕ → ℕ → List ℕ
 with_level levels n count = if nat_lt n (length levels) then slice_set levels n count else levels ++ count ∷ []
 
--- What is kept stands for these blocks: for each id the block's number and state, or nothing where no block has it,
+-- The map represents these blocks: for each id the block's number and state, or nothing where no block has it,
 -- and for each number how many blocks have it.
-pub record Keeps (m : BlockMap) (blocks : List Block) : Type 0 where
+pub record RepresentsBlocks (m : BlockMap) (blocks : List Block) : Type 0 where
   pub tree : AreBlocks blocks
-  pub numbers : (id : BlockId) → option_map (λ (k : Kept). k.number) (get id_cmp m.blocks id) ≡ number_of blocks id
-  pub states : (id : BlockId) → option_map (λ (k : Kept). k.state) (get id_cmp m.blocks id) ≡ state_of blocks id
+  pub numbers : (id : BlockId) → option_map (λ (k : BlockEntry). k.number) (get id_cmp m.blocks id) ≡ number_of blocks id
+  pub states : (id : BlockId) → option_map (λ (k : BlockEntry). k.state) (get id_cmp m.blocks id) ≡ state_of blocks id
   pub levels : (n : ℕ) → slice_index m.levels.items n ≡ count_at blocks n
   pub below : (id : BlockId) (n : ℕ) → number_of blocks id ≡ Some n → n < length m.levels.items
   pub none : blocks ≡ [] → m.levels.items ≡ []

@@ -1,6 +1,7 @@
 use Rattle.std.proofs.Common.{◌≡◌, sym, ◌∙◌, refl, true, [], ◌∷◌}
+use Rattle.std.proofs.lemmas.Result.{err_from_is_err_and}
 use Rattle.sdb_serve.proofs.Answering.{blank, genesis_again, genesis_early, genesis_first, job_early, job_is, job_none, new_again, new_first, no_test}
-use Rattle.sdb_serve.proofs.player.Player.answer.Goals as goal
+use Rattle.sdb_serve.proofs.session.Session.answer.Goals as goal
 
 pub returns-then-self-clause-refused : goal.returns-then-self-clause-refused
 returns-then-self-clause-refused c = λ s h _. rw c.in-New.is (new_again s _ (sym h.begun ∙ c.if-self.true))
@@ -33,14 +34,16 @@ returns-in_ok-genesis-in-Genesis-clause-answer c = λ s h.
 pub returns-then-is_empty-clause-refused : goal.returns-then-is_empty-clause-refused
 returns-then-is_empty-clause-refused c = λ s h _. rw c.in-Job.is (job_early s _ ((c.if-is_empty.ensures s.blocks h.blocks).0 refl))
 
-pub returns-in-Ok-clause-answer : goal.returns-in-Ok-clause-answer
-returns-in-Ok-clause-answer c = λ s h.
-    let a = c.in-Ok.ensures.answer s.blocks h.blocks in (
+pub returns-in_ok-reply-in-Job-clause-answer : goal.returns-in_ok-reply-in-Job-clause-answer
+returns-in_ok-reply-in-Job-clause-answer c = λ s h.
+    let a = c.in_ok-reply-in-Job.ensures.answer s.blocks h.blocks in (
       record s { blocks = a.0 },
       rw c.in-Job.is (job_is s _ _ a.0 (λ e. no_test ((c.if-is_empty.ensures s.blocks h.blocks).1 e)) a.1),
       record { begun = h.begun; window = h.window; read = h.read; blocks = a.2 },
     )
 
-pub returns-in-Err-clause-refused : goal.returns-in-Err-clause-refused
-returns-in-Err-clause-refused c = λ s h e.
-    rw c.in-Job.is (job_none s _ (λ f. no_test ((c.if-is_empty.ensures s.blocks h.blocks).1 f)) (c.in-Err.ensures.refused s.blocks h.blocks cc))
+pub returns-in_err-reply-in-Job-clause-refused : goal.returns-in_err-reply-in-Job-clause-refused
+returns-in_err-reply-in-Job-clause-refused c =
+    let p = err_from_is_err_and c.from_residual-in_err-reply-in-Job.result c.from_residual-in_err-reply-in-Job.ensures.1 in
+    rw (p.1, p.2) (λ s h e.
+        rw c.in-Job.is (job_none s _ (λ f. no_test ((c.if-is_empty.ensures s.blocks h.blocks).1 f)) (c.in_err-reply-in-Job.ensures.refused s.blocks h.blocks cc)))

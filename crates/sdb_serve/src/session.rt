@@ -1,11 +1,12 @@
 ghost use Rattle.std.specs.Prelude.{◌≡◌, ◌+◌, ◌^◌, ◌≤◌, List, length, Some, None, IfOk, OnOk, OnErr, IsErrOf};
 ghost use Rattle.sdb_base.specs.declared.Block.{Block};
-ghost use Rattle.sdb_serve.specs.Session.{Session, answered, first_session, job_answered, line_played, reply_line};
+ghost use Rattle.sdb_serve.specs.Session.{SessionState, answer, first_session, answer_job, play_line, reply_lines};
 ghost use Rattle.sdb_script.specs.Grammar.{line_of};
 ghost use Rattle.sdb_script.specs.LineTexts.{IsWithin};
 ghost use Rattle.sdb_script.specs.declared.line.Line.TheVariants as lines;
-ghost use Rattle.sdb_serve.specs.Blocks.{Keeps};
-ghost use Rattle.sdb_serve.specs.declared.player.PlayFault.TheVariants.{NotAnswered, OutOfMemory};
+ghost use Rattle.sdb_serve.specs.inner.Blocks.{RepresentsBlocks};
+ghost use Rattle.sdb_serve.specs.inner.Pieces.{as_piece};
+ghost use Rattle.sdb_serve.specs.declared.session.PlayFault.TheVariants.{NotAnswered, OutOfMemory};
 
 use crate::blocks::BlockMap;
 use sdb_model::{Reply, Task};
@@ -15,10 +16,10 @@ use std::alloc::{AllocError, AllocFailed, Global};
 // At most so many bytes of a script are read.
 const MOST_BYTES: u64 = 1 << 40;
 
-/// Why a line wasn't answered.
+/// Why a line wasn't answered: what the grammar refuses, and what the lines before it refuse.
 #[derive(Clone, Copy, Debug, PartialEq, Eq)]
 pub(crate) enum PlayFault {
-    /// It isn't in the grammar, may not stand here, or takes the script past its most bytes.
+    /// It isn't in the grammar, may not be here, or takes the script past its most bytes.
     NotAnswered,
     /// There was no memory.
     OutOfMemory,
@@ -42,7 +43,7 @@ impl<T: Drop> From<AllocFailed<T>> for PlayFault {
 
 /// Carries out the lines of a script, one after another.
 #[derive(Drop)]
-pub(crate) struct Player {
+pub(crate) struct Session {
     alloc: Global,
     begun: bool,
     // the pruning window of genesis, by which nothing is pruned yet
@@ -72,7 +73,7 @@ fn write_reply(
     reply: &Option<LineReply>,
     text: &mut Vec<u8>,
 ) -> Result<(), AllocError>
-    ensures { OnOk result (text.new.items ≡ reply_line reply.now) }
+    ensures { OnOk result (reply_lines reply.now ≡ as_piece text.new.items) }
 {
     text.clear();
     if let Some(reply) = reply {
@@ -82,11 +83,11 @@ fn write_reply(
     Ok(())
 }
 
-fn job(blocks: &mut BlockMap, task: &Task) -> Result<Reply, PlayFault>
+fn answer_job(blocks: &mut BlockMap, task: &Task) -> Result<Reply, PlayFault>
     requires { IsWithin (lines.Job task.now) }
-    ensures answer { (all : List Block) → Keeps blocks.old all → IfOk result (λ reply. (after : List Block)
-        × (job_answered all task.now ≡ Some (reply, after)) × Keeps blocks.new after) }
-    ensures refused { (all : List Block) → Keeps blocks.old all → IsErrOf result PlayFault.NotAnswered → job_answered all task.now ≡ None }
+    ensures answer { (all : List Block) → RepresentsBlocks blocks.old all → IfOk result (λ reply. (after : List Block)
+        × (answer_job all task.now ≡ Some (reply, after)) × RepresentsBlocks blocks.new after) }
+    ensures refused { (all : List Block) → RepresentsBlocks blocks.old all → IsErrOf result PlayFault.NotAnswered → answer_job all task.now ≡ None }
 {
     match task {
         Task::Read { id, key } => Ok(blocks.read(id, key)?),
@@ -98,16 +99,16 @@ fn job(blocks: &mut BlockMap, task: &Task) -> Result<Reply, PlayFault>
     }
 }
 
-impl Player {
-    ghost use Rattle.sdb_serve.specs.Steps.{Stands};
+impl Session {
+    ghost use Rattle.sdb_serve.specs.inner.Steps.{Represents};
 
     /// Nothing was read.
-    pub(crate) fn new(alloc: Global) -> Player
-        ensures stands { Stands result first_session }
+    pub(crate) fn new(alloc: Global) -> Session
+        ensures represents { Represents result first_session }
         ensures lines { result.lines ≡ 0 }
         ensures read { result.read ≡ 0 }
     {
-        Player {
+        Session {
             alloc,
             begun: false,
             window: 0,
@@ -126,9 +127,9 @@ impl Player {
 
     fn answer(&mut self, line: &Line) -> Result<Option<LineReply>, PlayFault>
         requires { IsWithin line.now }
-        ensures answer { (s : Session) → Stands self.old s → IfOk result (λ reply. (next : Session)
-            × (answered s line.now ≡ Some (reply, next)) × Stands self.new next) }
-        ensures refused { (s : Session) → Stands self.old s → IsErrOf result PlayFault.NotAnswered → answered s line.now ≡ None }
+        ensures answer { (s : SessionState) → Represents self.old s → IfOk result (λ reply. (next : SessionState)
+            × (answer s line.now ≡ Some (reply, next)) × Represents self.new next) }
+        ensures refused { (s : SessionState) → Represents self.old s → IsErrOf result PlayFault.NotAnswered → answer s line.now ≡ None }
         ensures lines { self.new.lines ≡ self.old.lines }
         ensures read { self.new.read ≡ self.old.read }
     {
@@ -156,20 +157,18 @@ impl Player {
                 if self.blocks.is_empty() {
                     return Err(PlayFault::NotAnswered);
                 }
-                match job(&mut self.blocks, task) {
-                    Ok(reply) => Ok(Some(LineReply::Job(reply))),
-                    Err(fault) => Err(fault),
-                }
+                let reply = answer_job(&mut self.blocks, task)?;
+                Ok(Some(LineReply::Job(reply)))
             }
         }
     }
 
     /// Answers a line: its reply, with a line feed, replaces what is in `text`, and a line that gets none leaves it
-    /// empty. After an `Err` the player isn't used again.
-    pub(crate) fn play(&mut self, line: &[u8], text: &mut Vec<u8>) -> Result<(), PlayFault>
-        ensures answer { (s : Session) → Stands self.old s → OnOk result ((next : Session)
-            × (line_played s line.now ≡ Some (text.new.items, next)) × Stands self.new next) }
-        ensures refused { (s : Session) → Stands self.old s → IsErrOf result PlayFault.NotAnswered → line_played s line.now ≡ None }
+    /// empty. After an `Err` the session isn't used again.
+    pub(crate) fn play_line(&mut self, line: &[u8], text: &mut Vec<u8>) -> Result<(), PlayFault>
+        ensures answer { (s : SessionState) → Represents self.old s → OnOk result ((next : SessionState)
+            × (play_line s line.now ≡ Some (as_piece text.new.items, next)) × Represents self.new next) }
+        ensures refused { (s : SessionState) → Represents self.old s → IsErrOf result PlayFault.NotAnswered → play_line s line.now ≡ None }
         ensures lines { OnOk result (self.new.lines ≡ self.old.lines + 1) }
         ensures read { OnOk result (self.new.read ≡ self.old.read + (length line.now + 1)) }
         ensures stopped { OnErr result (self.new.lines ≡ self.old.lines) }
@@ -178,14 +177,8 @@ impl Player {
         if self.read + taken > MOST_BYTES {
             return Err(PlayFault::NotAnswered);
         }
-        let parsed = match parsed(self.alloc, line) {
-            Ok(parsed) => parsed,
-            Err(fault) => return Err(fault),
-        };
-        let reply = match self.answer(&parsed) {
-            Ok(reply) => reply,
-            Err(fault) => return Err(fault),
-        };
+        let parsed = parsed(self.alloc, line)?;
+        let reply = self.answer(&parsed)?;
         write_reply(self.alloc, &reply, text)?;
         self.read += taken;
         self.lines += 1;
