@@ -1,13 +1,15 @@
 -- The line of a text keeps the limits.
 use Rattle.std.proofs.Common.{◌≡◌, ℕ, suc, ◌≤◌, Bool, true, false, ◌&&◌, cond, List, [], ◌∷◌, length, Some, None, Result, Ok, Err, refl, ap, subst, arith}
-use Rattle.std.specs.Prelude.{IfOk, nat_le, nat_lt, codes}
+use Rattle.std.specs.Prelude.{All, IfOk, nat_le, nat_lt, codes}
 use Rattle.std.specs.Option.{option_map}
 use Rattle.std.specs.List.{AllByRecursion, after_first, before_first, list_any}
 use Rattle.std.specs.Str.{bytes_eq}
 use Rattle.std.proofs.lemmas.Bool.{and_parts, leb-true}
+use Rattle.std.proofs.lemmas.List.Elements.{All-cons, All-nil}
 use Rattle.std.proofs.lemmas.Option.{none-some, same_Some}
 use Rattle.sdb_base.specs.declared.BlockId.{BlockId}
 use Rattle.sdb_base.specs.declared.Change.{Change}
+use Rattle.sdb_model.specs.Limits.{ChangeIsWithin}
 use Rattle.sdb_model.specs.declared.Task.TheVariants.{Import, Read, Root}
 use Rattle.sdb_script.specs.declared.line.Line.{Line}
 use Rattle.sdb_script.specs.declared.line.Line.TheVariants.{Blank, New, Genesis, Job}
@@ -81,9 +83,13 @@ number_within_is low high w n h =
 no_parent_is_id : IsId no_parent
 no_parent_is_id = (refl, zeros_are_bytes 32)
 
+each_is_within : (cs : List Change) → AllByRecursion IsChange cs → All ChangeIsWithin cs
+each_is_within [] h = All-nil ChangeIsWithin
+each_is_within (c ∷ cs) h = All-cons ChangeIsWithin c cs h.0.within (each_is_within cs h.1)
+
 -- a block of words that were read
 block_is : (id parent : BlockId) (cs : List Change) → IsId id → IsId parent → AllByRecursion IsChange cs × (length cs ≤ most_changes) → IsBlock (block_with id parent cs)
-block_is id parent cs i p h = record { id = i; parent = p; few = h.1; changes = h.0; version = refl }
+block_is id parent cs i p h = record { id = i; parent = p; within = record { few = h.1; each = each_is_within cs h.0 }; changes = h.0; version = refl }
 
 new_is : (ws : List (List ℕ)) (line : Line) → new_line ws ≡ Some line → IsWithin line
 unfolding new_line

@@ -61,12 +61,12 @@ genesis_back : (window : ℕ) (block : Block) → 1 ≤ window → window ≤ 40
     → genesis_line (id_text block.id ∷ decimal window ∷ map change_text block.changes) ≡ Some (Genesis window block)
 unfolding genesis_line
 genesis_back window block low high h parent =
-    rw (id_back block.id h.id, number_back 1 4096 window (omega arith) low high, changes_back block.changes h.few h.changes, ← parent) (ap (λ (b : Block). Some (Genesis window b)) (block_is block h.version))
+    rw (id_back block.id h.id, number_back 1 4096 window (omega arith) low high, changes_back block.changes h.within.few h.changes, ← parent) (ap (λ (b : Block). Some (Genesis window b)) (block_is block h.version))
 
 import_back : (block : Block) → IsBlock block → import_line (id_text block.id ∷ id_text block.parent ∷ map change_text block.changes) ≡ Some (Job (Import block))
 unfolding import_line
 import_back block h =
-    rw (id_back block.id h.id, id_back block.parent h.parent, changes_back block.changes h.few h.changes) (ap (λ (b : Block). Some (Job (Import b))) (block_is block h.version))
+    rw (id_back block.id h.id, id_back block.parent h.parent, changes_back block.changes h.within.few h.changes) (ap (λ (b : Block). Some (Job (Import b))) (block_is block h.version))
 
 read_back : (id : BlockId) (key : List ℕ) → IsId id → HasAtMost most_in_key key → read_line (id_text id ∷ bytes_text key ∷ []) ≡ Some (Job (Read id key))
 unfolding read_line

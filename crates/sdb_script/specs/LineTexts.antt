@@ -6,7 +6,7 @@ use Rattle.hex.specs.Hex.{encode_lower, IsBytes}
 use Rattle.sdb_base.specs.declared.Block.{Block}
 use Rattle.sdb_base.specs.declared.BlockId.{BlockId}
 use Rattle.sdb_base.specs.declared.Change.{Change}
-use Rattle.sdb_model.specs.Limits.{ChangeIsWithin, bytes_in_id, most_changes, most_in_key}
+use Rattle.sdb_model.specs.Limits.{BlockIsWithin, ChangeIsWithin, bytes_in_id, most_in_key}
 use Rattle.sdb_model.specs.declared.Task.TheVariants.{Import, Read, Root}
 use Rattle.sdb_script.specs.declared.line.Line.{Line}
 use Rattle.sdb_script.specs.declared.line.Line.TheVariants.{Blank, New, Genesis, Job}
@@ -50,11 +50,11 @@ pub record IsChange (change : Change) : Type 0 where
   pub key : IsBytes change.key
   pub value : IfSome change.value IsBytes
 
--- a block with such changes, not too many
+-- a block within the limits, with such changes
 pub record IsBlock (block : Block) : Type 0 where
   pub id : IsId block.id
   pub parent : IsId block.parent
-  pub few : length block.changes ≤ most_changes
+  pub within : BlockIsWithin block
   pub changes : AllByRecursion IsChange block.changes
   pub version : block.version ≡ 0
 
