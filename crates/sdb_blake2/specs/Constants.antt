@@ -25,9 +25,9 @@ are_root_fractions (p ∷ ps) (k ∷ ks) = is_root_fraction p k && are_root_frac
 are_root_fractions _ _ = false
 
 -- 0, …, 15
-abbrev pub sixteen : List ℕ
-sixteen = 0 ∷ 1 ∷ 2 ∷ 3 ∷ 4 ∷ 5 ∷ 6 ∷ 7 ∷ 8 ∷ 9 ∷ 10 ∷ 11 ∷ 12 ∷ 13 ∷ 14 ∷ 15 ∷ []
+abbrev pub zero_to_fifteen : List ℕ
+zero_to_fifteen = 0 ∷ 1 ∷ 2 ∷ 3 ∷ 4 ∷ 5 ∷ 6 ∷ 7 ∷ 8 ∷ 9 ∷ 10 ∷ 11 ∷ 12 ∷ 13 ∷ 14 ∷ 15 ∷ []
 
 -- the row has each of 0 to 15 just once
 abbrev pub is_permutation : List ℕ → Bool
-is_permutation row = list_all (λ n. count_by (λ k. k == n) row == 1) sixteen && (count_by (λ k. true) row == 16)
+is_permutation row = list_all (λ n. count_by (λ k. k == n) row == 1) zero_to_fifteen && (count_by (λ k. true) row == 16)

@@ -2,7 +2,7 @@
 
 ghost use Rattle.std.specs.Prelude.{◌≡◌, ℕ, ◌+◌, ◌<◌, ◌≤◌, IsTrue, length, nat_lt};
 ghost use Rattle.std.specs.List.{list_all};
-ghost use Rattle.sdb_blake2.specs.Blake2b.{block_words, compress, half_mixed, mixed, round, rounds, sigma_row, word_at, working_vector};
+ghost use Rattle.sdb_blake2.specs.Blake2b.{words_of_block, compress, half_mixed, mixed, round, rounds, sigma_row, word_at, working_vector};
 
 pub(crate) const BLOCK_LEN: usize = 128;
 
@@ -119,9 +119,9 @@ fn word_at(block: &[u8], i: usize) -> u64
 
 // The sixteen words of a block.
 #[inline(always)]
-fn block_words(block: &[u8]) -> [u64; 16]
+fn words_of_block(block: &[u8]) -> [u64; 16]
     requires { length block.now ≡ 128 }
-    ensures { result ≡ block_words block.now 16 }
+    ensures { result ≡ words_of_block block.now 16 }
 {
     let mut words = [0u64; 16];
     'load: for i in 0..16usize {
@@ -165,7 +165,7 @@ pub(crate) fn compress(state: &mut [u64; 8], block: &[u8], count: u64, last: boo
     ensures { state.new ≡ compress state.old block.now count last }
 {
     let h = *state;
-    let words = block_words(block);
+    let words = words_of_block(block);
     let mut v = working_vector(h, count, last);
     twelve_rounds(&mut v, &words);
     *state = [

@@ -2,7 +2,9 @@ ghost use Rattle.std.specs.Prelude.{◌≤◌, length};
 
 use crate::laws::{ABC_512, EMPTY_256, ZERO_256};
 use crate::{Blake2b, hash256};
+use std::alloc::{AllocError, Global};
 use std::process::Abort;
+use std::test::*;
 
 // The digests of 32 bytes of messages of these lengths, whose byte i is i mod 251, by Python's
 // hashlib.blake2b.
@@ -81,6 +83,26 @@ const DIGESTS: [(usize, [u8; 32]); 9] = [
     ),
 ];
 
+// The same of messages of more bytes than 16 and than 24 bits count.
+const LONG_DIGESTS: [(usize, [u8; 32]); 2] = [
+    (
+        70_000,
+        [
+            0xef, 0x7f, 0xa9, 0x6a, 0x0d, 0xc8, 0xbf, 0x81, 0x1f, 0xc3, 0x96, 0x6a, 0x31, 0x54,
+            0x74, 0x4d, 0xe5, 0x04, 0x2b, 0xf1, 0x31, 0x3a, 0xb1, 0xaf, 0xca, 0x8e, 0x97, 0xe8,
+            0xdc, 0xdb, 0xa7, 0xf5,
+        ],
+    ),
+    (
+        17_000_000,
+        [
+            0x93, 0x45, 0xa2, 0xd1, 0x80, 0x53, 0x39, 0x5a, 0xab, 0xbc, 0x41, 0x42, 0xe2, 0x56,
+            0xe8, 0x56, 0x84, 0x35, 0x3f, 0xde, 0x17, 0x53, 0xa2, 0x87, 0xb6, 0x6d, 0x5a, 0x69,
+            0x5c, 0x24, 0x57, 0x9f,
+        ],
+    ),
+];
+
 // Where a message is cut in two places.
 const CUTS: [(usize, usize); 5] = [(0, 0), (1, 127), (127, 129), (128, 128), (128, 256)];
 
@@ -123,6 +145,23 @@ fn digests_of_each_length(rt: HostRuntime) {
         assert_eq!(rt; hash256(message), expected, "{len} bytes");
         assert_in_pieces(&rt, message, expected);
     }
+}
+
+#[test]
+fn digests_of_long_messages(rt: HostRuntime) -> Result<(), Fail> {
+    for (len, expected) in LONG_DIGESTS {
+        let message = long_pattern(rt.alloc(), len)?;
+        assert_eq!(rt; hash256(&message), expected, "{len} bytes");
+    }
+    Ok(())
+}
+
+fn long_pattern(alloc: Global, len: usize) -> Result<Vec<u8>, AllocError> {
+    let mut message = vec![in alloc; 0u8; len]?;
+    for (i, byte) in message.iter_mut().enumerate() {
+        *byte = (i % 251) as u8;
+    }
+    Ok(message)
 }
 
 fn assert_digest(rt: &impl Abort, message: &[u8], expected: &[u8])

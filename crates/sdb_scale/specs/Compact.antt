@@ -57,7 +57,7 @@ abbrev pub EndsEarly : List ℕ → Type 0
 EndsEarly [] = Unit {0}
 EndsEarly (b ∷ bs) = (mode : Mode) × (b % 4 ≡ mode_bits mode) × (length (b ∷ bs) < mode_len mode)
 
--- a number stands in front in a longer mode than it needs
+-- the bytes begin with a number in a longer mode than it needs
 abbrev pub IsNotShortest : List ℕ → Type 0
 IsNotShortest bytes = (mode : Mode) × (n : ℕ) × (rest : List ℕ)
     × (n < mode_limit mode) × (mode_len (mode_of n) < mode_len mode) × (bytes ≡ spelled_in mode n ++ rest)
@@ -67,6 +67,6 @@ abbrev pub IsTooLarge : List ℕ → Type 0
 IsTooLarge [] = ⊥
 IsTooLarge (b ∷ bs) = b % 4 ≡ 3
 
--- a length stands in front, and fewer bytes than it says after it
+-- the bytes begin with a length, and fewer bytes than it says follow it
 abbrev pub IsCutOff : List ℕ → Type 0
 IsCutOff bytes = (n : ℕ) × (rest : List ℕ) × (n < 2 ^ 30) × (bytes ≡ compact n ++ rest) × (length rest < n)

@@ -2,7 +2,7 @@
 //!
 //! A number below 2^30 has one spelling, in the shortest of three modes, which the two low bits of
 //! its first byte name. The writers append it; the readers take it from the front of a slice and
-//! lend the value and the bytes after it. They read a spelling exactly where one stands in front,
+//! give the value and the bytes after it, both borrowed from their input. They read a spelling exactly where one stands in front,
 //! and else name the fault. Readers take no memory. SCALE's mode for larger numbers is left out: the
 //! formats above have no such number.
 #![tactic(auto)]

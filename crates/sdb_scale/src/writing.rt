@@ -33,7 +33,7 @@ pub fn put_bytes(out: &mut Vec<u8>, bytes: &[u8]) -> Result<(), ScaleFault>
     if len >= 1 << 30 {
         return Err(ScaleFault::TooLarge);
     }
-    // Room for both first: once the length stands there, nothing can fail.
+    // Room for both first: once the length is written, nothing can fail.
     out.reserve(4 + len)?;
     push_spelling(out, len as u32)?;
     out.extend_from_slice(bytes)?;

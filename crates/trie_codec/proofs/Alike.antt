@@ -61,9 +61,9 @@ header_left m (b ∷ bs) few =
     let fewer : length bs ≤ m = omega arith in
     tested m (b / 64 == 0) _ _ _ _ (tested m (b == 0) _ _ _ _ (ends m (0, 0) bs fewer) (refused m BadHeader))
     (tested m (b % 64 == 63) _ _ _ _
-        (and_then m (λ (n : ℕ) rest. Ok ((b / 64, n), rest)) (λ (n : ℕ) rest. Ok ((b / 64, n), rest)) _ _ (count_left m 63 bs fewer)
-            (λ n rest h. ends m (b / 64, n) rest h))
-        (ends m (b / 64, b % 64) bs fewer))
+    (and_then m (λ (n : ℕ) rest. Ok ((b / 64, n), rest)) (λ (n : ℕ) rest. Ok ((b / 64, n), rest)) _ _ (count_left m 63 bs fewer)
+    (λ n rest h. ends m (b / 64, n) rest h))
+    (ends m (b / 64, b % 64) bs fewer))
 
 pub padding_left : (n : ℕ) (bytes checked : List ℕ) → checked_padding n bytes ≡ Ok checked → length checked ≤ length bytes
 padding_left n [] checked e = by_test (n % 2 == 1) e
@@ -93,15 +93,13 @@ length_left m [] few = refused m Short
 length_left m (b ∷ bs) few =
     tested m (b % 4 == 0) _ _ _ _ (ends m (b / 4) bs (omega arith))
     (tested m (b % 4 == 1) _ _ _ _
-        (and_then m (λ (f : List ℕ) rest. shortest 64 (from_le_bytes w16 f / 4) rest) (λ (f : List ℕ) rest. shortest 64 (from_le_bytes w16 f / 4) rest) _ _
-            (bytes_left m 2 (b ∷ bs) few) (λ f rest h. shortest_left m 64 (from_le_bytes w16 f / 4) rest h))
-        (tested m (b % 4 == 2) _ _ _ _
-            (and_then m (λ (f : List ℕ) rest. shortest 16384 (from_le_bytes w32 f / 4) rest) (λ (f : List ℕ) rest. shortest 16384 (from_le_bytes w32 f / 4) rest) _ _
-                (bytes_left m 4 (b ∷ bs) few) (λ f rest h. shortest_left m 16384 (from_le_bytes w32 f / 4) rest h))
-            (refused m BadLength)))
+    (and_then m (λ (f : List ℕ) rest. shortest 64 (from_le_bytes w16 f / 4) rest) (λ (f : List ℕ) rest. shortest 64 (from_le_bytes w16 f / 4) rest) _ _
+    (bytes_left m 2 (b ∷ bs) few) (λ f rest h. shortest_left m 64 (from_le_bytes w16 f / 4) rest h))
+    (tested m (b % 4 == 2) _ _ _ _
+    (and_then m (λ (f : List ℕ) rest. shortest 16384 (from_le_bytes w32 f / 4) rest) (λ (f : List ℕ) rest. shortest 16384 (from_le_bytes w32 f / 4) rest) _ _
+    (bytes_left m 4 (b ∷ bs) few) (λ f rest h. shortest_left m 16384 (from_le_bytes w32 f / 4) rest h))
+    (refused m BadLength)))
 
 pub string_left : (m : ℕ) (bytes : List ℕ) → length bytes ≤ m → Alike m (first_string bytes) (first_string bytes)
 unfolding first_string
 string_left m bytes few = and_then m (λ n rest. first_bytes n rest) (λ n rest. first_bytes n rest) _ _ (length_left m bytes few) (λ n rest h. bytes_left m n rest h)
-
-

@@ -4,10 +4,10 @@ use Rattle.std.specs.Prelude.{is_some, ◌==◌}
 use Rattle.std.proofs.lemmas.List.{append-nil}
 use Rattle.std.specs.List.{list_any}
 use Rattle.std.specs.Borrow.{Bor}
-use Rattle.trie_codec.specs.Reads.{bytes_in}
+use Rattle.trie_codec.specs.Slices.{bytes_in}
 use Rattle.trie_codec.specs.declared.fault.CodecFault.{CodecFault}
 use Rattle.trie_codec.specs.Reading.{◌>>=◌, first_child, first_children}
-use Rattle.trie_codec.specs.Steps.{first_lowest_child}
+use Rattle.trie_codec.specs.inner.Steps.{first_lowest_child}
 
 is_there : (c : Option (Bor (List ℕ))) → is_some (bytes_in c) ≡ is_some c
 is_there None = refl

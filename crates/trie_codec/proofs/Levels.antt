@@ -69,8 +69,8 @@ children_alike m reads others agree (suc n) map bytes few =
     let deeper = λ (rest : List ℕ) (h : length rest ≤ m). children_alike m reads others agree n (map / 2) rest h in
     tested m (map % 2 == 1) _ _ _ _
     (and_then m (λ (first : List ℕ) rest. first_children reads n (map / 2) rest >>= λ x. Ok (Some first ∷ x.0, x.1))
-        (λ (first : List ℕ) rest. first_children others n (map / 2) rest >>= λ x. Ok (Some first ∷ x.0, x.1)) _ _
-        (child_alike m reads others agree bytes few) (λ first rest h. before_others m reads others n (map / 2) deeper (Some first) rest h))
+    (λ (first : List ℕ) rest. first_children others n (map / 2) rest >>= λ x. Ok (Some first ∷ x.0, x.1)) _ _
+    (child_alike m reads others agree bytes few) (λ first rest h. before_others m reads others n (map / 2) deeper (Some first) rest h))
     (before_others m reads others n (map / 2) deeper None bytes few)
 
 leaf_left : (m : ℕ) (partial bytes : List ℕ) → length bytes ≤ m → Alike m (first_leaf partial bytes) (first_leaf partial bytes)
@@ -116,9 +116,9 @@ body_alike : (m : ℕ) (reads others : List ℕ → Bool) → Agree m reads othe
 body_alike m reads others agree header bytes few =
     tested m (header.0 == 0) _ _ _ _ (ends m empty_node bytes few)
     (and_then m (λ (partial : List ℕ) rest. cond (header.0 == 1) (first_leaf partial rest) (first_branch reads header.0 partial rest))
-        (λ (partial : List ℕ) rest. cond (header.0 == 1) (first_leaf partial rest) (first_branch others header.0 partial rest)) _ _
-        (partial_left m header.1 bytes few)
-        (λ partial rest h. tested m (header.0 == 1) _ _ _ _ (leaf_left m partial rest h) (branch_alike m reads others agree header.0 partial rest h)))
+    (λ (partial : List ℕ) rest. cond (header.0 == 1) (first_leaf partial rest) (first_branch others header.0 partial rest)) _ _
+    (partial_left m header.1 bytes few)
+    (λ partial rest h. tested m (header.0 == 1) _ _ _ _ (leaf_left m partial rest h) (branch_alike m reads others agree header.0 partial rest h)))
 
 node_alike : (m : ℕ) (reads others : List ℕ → Bool) → Agree m reads others → (bytes : List ℕ) → length bytes ≤ suc m → first_node reads bytes ≡ first_node others bytes
 unfolding first_node

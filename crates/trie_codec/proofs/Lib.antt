@@ -7,7 +7,7 @@ pub mod Headers
 pub mod KeyBytes
 pub mod Layouts
 pub mod Lengths
-pub mod Lent
+pub mod Slices
 pub mod Levels
 pub mod Longer
 pub mod LongerNodes

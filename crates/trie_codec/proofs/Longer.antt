@@ -76,8 +76,8 @@ header_longer [] more = cut_off more (first_header more)
 header_longer (b ∷ bs) more =
     tested more (b / 64 == 0) _ _ _ _ (tested more (b == 0) _ _ _ _ (ends more (0, 0) bs) (refused more BadHeader))
     (tested more (b % 64 == 63) _ _ _ _
-        (and_then more (λ (n : ℕ) rest. Ok ((b / 64, n), rest)) _ _ (count_longer 63 bs more) (λ n rest. ends more (b / 64, n) rest))
-        (ends more (b / 64, b % 64) bs))
+    (and_then more (λ (n : ℕ) rest. Ok ((b / 64, n), rest)) _ _ (count_longer 63 bs more) (λ n rest. ends more (b / 64, n) rest))
+    (ends more (b / 64, b % 64) bs))
 
 -- the bytes of a partial key of n nibbles, after its padding was checked
 pub key_in : ℕ → List ℕ → Result (List ℕ × List ℕ) CodecFault
@@ -114,12 +114,12 @@ length_longer [] more = cut_off more (first_length more)
 length_longer (b ∷ bs) more =
     tested more (b % 4 == 0) _ _ _ _ (ends more (b / 4) bs)
     (tested more (b % 4 == 1) _ _ _ _
-        (and_then more (λ (f : List ℕ) rest. shortest 64 (from_le_bytes w16 f / 4) rest) _ _ (bytes_longer 2 (b ∷ bs) more)
-            (λ f rest. shortest_longer 64 (from_le_bytes w16 f / 4) rest more))
-        (tested more (b % 4 == 2) _ _ _ _
-            (and_then more (λ (f : List ℕ) rest. shortest 16384 (from_le_bytes w32 f / 4) rest) _ _ (bytes_longer 4 (b ∷ bs) more)
-                (λ f rest. shortest_longer 16384 (from_le_bytes w32 f / 4) rest more))
-            (refused more BadLength)))
+    (and_then more (λ (f : List ℕ) rest. shortest 64 (from_le_bytes w16 f / 4) rest) _ _ (bytes_longer 2 (b ∷ bs) more)
+    (λ f rest. shortest_longer 64 (from_le_bytes w16 f / 4) rest more))
+    (tested more (b % 4 == 2) _ _ _ _
+    (and_then more (λ (f : List ℕ) rest. shortest 16384 (from_le_bytes w32 f / 4) rest) _ _ (bytes_longer 4 (b ∷ bs) more)
+    (λ f rest. shortest_longer 16384 (from_le_bytes w32 f / 4) rest more))
+    (refused more BadLength)))
 
 pub string_longer : (bytes more : List ℕ) → Extends more (first_string bytes) (first_string (bytes ++ more))
 unfolding first_string

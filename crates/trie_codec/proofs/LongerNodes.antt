@@ -37,7 +37,7 @@ children_longer reads (suc n) map bytes more =
     let deeper = λ (rest : List ℕ). children_longer reads n (map / 2) rest more in
     tested more (map % 2 == 1) _ _ _ _
     (and_then more (λ (first : List ℕ) rest. first_children reads n (map / 2) rest >>= λ others. Ok (Some first ∷ others.0, others.1)) _ _
-        (child_longer reads bytes more) (λ first rest. before_others reads n (map / 2) more deeper (Some first) rest))
+    (child_longer reads bytes more) (λ first rest. before_others reads n (map / 2) more deeper (Some first) rest))
     (before_others reads n (map / 2) more deeper None bytes)
 
 leaf_longer : (partial bytes more : List ℕ) → Extends more (first_leaf partial bytes) (first_leaf partial (bytes ++ more))
@@ -72,8 +72,8 @@ body_longer : (reads : List ℕ → Bool) (header : Header) (bytes more : List �
 body_longer reads header bytes more =
     tested more (header.0 == 0) _ _ _ _ (ends more empty_node bytes)
     (and_then more (λ (partial : List ℕ) rest. cond (header.0 == 1) (first_leaf partial rest) (first_branch reads header.0 partial rest)) _ _
-        (partial_longer header.1 bytes more)
-        (λ partial rest. tested more (header.0 == 1) _ _ _ _ (leaf_longer partial rest more) (branch_longer reads header.0 partial rest more)))
+    (partial_longer header.1 bytes more)
+    (λ partial rest. tested more (header.0 == 1) _ _ _ _ (leaf_longer partial rest more) (branch_longer reads header.0 partial rest more)))
 
 node_longer : (reads : List ℕ → Bool) (bytes more : List ℕ) → Extends more (first_node reads bytes) (first_node reads (bytes ++ more))
 unfolding first_node

@@ -4,8 +4,8 @@ use Rattle.std.specs.Prelude.{IfSome}
 use Rattle.std.specs.Borrow.{Bor}
 use Rattle.std.proofs.lemmas.Grind.{common_steps}
 use Rattle.std.proofs.lemmas.List.{drop-take, take-take}
-use Rattle.trie_codec.specs.NodeParts.{child_lent, parts_of, value_lent}
-use Rattle.trie_codec.specs.Places.{IsPart, LendsParts, children_from, place_in}
+use Rattle.trie_codec.specs.NodeParts.{child_slice, parts_of, value_slice}
+use Rattle.trie_codec.specs.Places.{IsPart, BorrowsParts, children_from, place_in}
 use Rattle.trie_codec.specs.declared.node_ref.NodeRef.{NodeRef}
 
 pub part_self : (s : Bor (List ℕ)) → IsPart s s 0
@@ -45,8 +45,8 @@ pub some_within : (input part : Bor (List ℕ)) (inner : Option (Bor (List ℕ))
 some_within input part None after outer deep = tt
 some_within input part (Some s) after outer deep = part_within input part s after outer deep
 
-pub lends_within : (input part : Bor (List ℕ)) (r : NodeRef) (after : ℕ) → IsPart input part 0 → LendsParts part r after → LendsParts input r after
-lends_within input part r after outer lends = (
-  some_within input part (value_lent r) (length (children_from 0 (parts_of r)) + after) outer lends.0,
-  (λ i. some_within input part (child_lent r i) (length (children_from (i + 1) (parts_of r)) + after) outer (lends.1 i)),
+pub borrows_within : (input part : Bor (List ℕ)) (r : NodeRef) (after : ℕ) → IsPart input part 0 → BorrowsParts part r after → BorrowsParts input r after
+borrows_within input part r after outer lends = (
+  some_within input part (value_slice r) (length (children_from 0 (parts_of r)) + after) outer lends.0,
+  (λ i. some_within input part (child_slice r i) (length (children_from (i + 1) (parts_of r)) + after) outer (lends.1 i)),
 )

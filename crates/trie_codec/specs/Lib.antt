@@ -1,6 +1,6 @@
-pub mod Reads
 pub mod NodeParts
 pub mod Parts
 pub mod Places
 pub mod Reading
-pub mod Steps
+pub mod Slices
+pub mod inner

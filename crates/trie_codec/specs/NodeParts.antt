@@ -3,7 +3,7 @@ use Rattle.std.specs.Prelude.{◌≡◌, ◌<◌, ℕ, ◌%◌, Bool, true, fals
 use Rattle.std.specs.Borrow.{Bor}
 use Rattle.sdb_base.specs.Nibbles.{nibbles_of}
 use Rattle.trie_model.specs.Node.{Node, has_child}
-use Rattle.trie_codec.specs.Reads.{bytes_in}
+use Rattle.trie_codec.specs.Slices.{bytes_in}
 use Rattle.trie_codec.specs.declared.node_ref.NodeRef.{NodeRef}
 use Rattle.trie_codec.specs.declared.node_ref.Kind.{Kind}
 use Rattle.trie_codec.specs.declared.node_ref.Kind.TheVariants.{Empty, Leaf, Branch}
@@ -27,12 +27,12 @@ parts_of r = record {
   children = map bytes_in r.children;
 }
 
--- the slice that is lent of the value, and of child i
-abbrev pub value_lent : NodeRef → Option (Bor (List ℕ))
-value_lent r = r.value
+-- the slices of the value and of child i
+abbrev pub value_slice : NodeRef → Option (Bor (List ℕ))
+value_slice r = r.value
 
-abbrev pub child_lent : NodeRef → ℕ → Option (Bor (List ℕ))
-child_lent r i = slice_index_or r.children i None
+abbrev pub child_slice : NodeRef → ℕ → Option (Bor (List ℕ))
+child_slice r i = slice_index_or r.children i None
 
 -- a child's Merkle value: a hash is one of 32 bytes
 abbrev pub IsChildOf : ChildRef → Option (Bor (List ℕ)) → Type 0

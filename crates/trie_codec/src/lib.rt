@@ -2,7 +2,7 @@
 //!
 //! `NodeRef` reads a node and owns nothing: what it gives of the node are slices of its input. It reads exactly the
 //! spellings of nodes, and else names the first fault from the left; it takes no memory. `encode` writes the one
-//! spelling of a node's parts. Nodes and spellings stand in the crate of the trie's definitions, and the order of
+//! spelling of a node's parts. Nodes and spellings are defined in the crate of the trie's definitions, and the order of
 //! faults in `specs/Reading`. Which nodes make a trie is left to the layers above.
 #![tactic(auto)]
 
@@ -14,7 +14,10 @@ mod reading;
 mod writing;
 
 pub use fault::CodecFault;
-pub use laws::{faults_stay, known_readings, more_levels_read_nothing_more, what_is_read_was_written, what_is_written_is_read};
+pub use laws::{
+    faults_stay, known_readings, more_levels_read_nothing_more, what_is_read_was_written,
+    what_is_written_is_read,
+};
 pub use node_ref::{ChildRef, Kind, NodeRef};
 pub use plain::{ChildList, Plain};
 pub use writing::{encode, encode_leaf, encode_parts};

@@ -1,7 +1,7 @@
 ghost use Rattle.std.specs.Prelude.{◌≡◌, ◌+◌, ◌/◌, ◌<◌, ◌≤◌, ℕ, IfSome, None, length, slice_index, slice_index_or, is_some};
 ghost use Rattle.std.specs.List.{list_any};
 ghost use Rattle.std.proofs.Props.{props};
-ghost use Rattle.trie_codec.specs.Reads.{bytes_in};
+ghost use Rattle.trie_codec.specs.Slices.{bytes_in};
 
 /// What a node is.
 #[derive(Debug, Clone, Copy, PartialEq, Eq)]
@@ -25,7 +25,7 @@ pub enum ChildRef<'a> {
     Hashed(&'a [u8]),
 }
 
-/// A node that stands in bytes, of which it lends its parts.
+/// A node in its bytes: its parts are slices of these.
 #[derive(Debug, Clone, Copy)]
 pub struct NodeRef<'a> {
     // The bytes of the partial key, and how many nibbles it has. Of an odd count the first nibble is the low half of
@@ -41,7 +41,7 @@ pub struct NodeRef<'a> {
 }
 
 impl<'a> NodeRef<'a> {
-    ghost use Rattle.trie_codec.specs.NodeParts.{IsChildOf, child_bytes, child_lent, kind_of, parts_of, value_lent};
+    ghost use Rattle.trie_codec.specs.NodeParts.{IsChildOf, child_bytes, child_slice, kind_of, parts_of, value_slice};
 
     /// What the node is.
     #[tactic(auto, using(crate::proofs::Children::has_child_in))]
@@ -79,7 +79,7 @@ impl<'a> NodeRef<'a> {
     /// The value, if the node has one.
     pub fn value(&self) -> Option<&'a [u8]>
         ensures bytes { bytes_in result ≡ (parts_of self.now).value }
-        ensures lent { result ≡ value_lent self.now }
+        ensures borrowed { result ≡ value_slice self.now }
     {
         self.value
     }
@@ -88,7 +88,7 @@ impl<'a> NodeRef<'a> {
     pub fn child(&self, i: u8) -> ChildRef<'a>
         requires { i < 16 }
         ensures bytes { slice_index_or (parts_of self.now).children i None ≡ child_bytes result }
-        ensures lent { IsChildOf result (child_lent self.now i) }
+        ensures borrowed { IsChildOf result (child_slice self.now i) }
     {
         let child = self.children[i as usize];
         match child {

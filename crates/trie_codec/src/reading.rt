@@ -3,11 +3,12 @@ ghost use Rattle.std.specs.List.{flat_map};
 ghost use Rattle.sdb_base.specs.Nibbles.{nibbles_of};
 ghost use Rattle.sdb_scale.specs.Compact.{string};
 ghost use Rattle.trie_model.specs.Node.{IsNode, Node, optional_string, spelling};
-ghost use Rattle.trie_codec.specs.Reads.{Reads, bytes_in};
+ghost use Rattle.trie_codec.specs.Slices.{bytes_in};
+ghost use Rattle.trie_codec.specs.inner.Reads.{Reads};
 ghost use Rattle.trie_codec.specs.NodeParts.{parts_of};
-ghost use Rattle.trie_codec.specs.Places.{IsPart, LendsParts};
+ghost use Rattle.trie_codec.specs.Places.{IsPart, BorrowsParts};
 ghost use Rattle.trie_codec.specs.Reading.{first_bitmap, first_branch, first_bytes, first_child, first_children, first_count, first_header, first_leaf, first_length, first_node, node_of_bytes, first_partial, reads_inline, first_string, first_value};
-ghost use Rattle.trie_codec.specs.Steps.{first_lowest_child};
+ghost use Rattle.trie_codec.specs.inner.Steps.{first_lowest_child};
 
 use crate::fault::CodecFault;
 use crate::node_ref::NodeRef;
@@ -94,7 +95,8 @@ fn read_header(bytes: &[u8]) -> Result<(Header, &[u8]), CodecFault>
 #[tactic(auto, unfolding(crate::specs::Reading::first_partial))]
 fn read_partial(nibbles: usize, bytes: &[u8]) -> Result<(&[u8], &[u8]), CodecFault>
     requires { nibbles ≤ 2048 }
-    ensures gives { Reads (λ x. (drop (nibbles % 2) (nibbles_of x.0.now), x.1.now)) result (first_partial nibbles bytes.now) }
+    ensures gives { Reads (λ x. (drop (nibbles % 2) (nibbles_of x.0.now), x.1.now)) result
+        (first_partial nibbles bytes.now) }
     ensures whole { IfOk result (λ x. length x.0.now ≡ (nibbles + 1) / 2) }
     ensures rest { IfOk result (λ x. IsPart bytes.entry x.1 0) }
 {
@@ -185,7 +187,8 @@ fn reads_alone(depth: u8, bytes: &[u8]) -> bool
 // A child's Merkle value.
 #[cycle(inline)]
 fn read_child(depth: u8, bytes: &[u8]) -> Result<(&[u8], &[u8]), CodecFault>
-    ensures gives { Reads (λ x. (x.0.now, x.1.now)) result (first_child (reads_inline depth) bytes.now) }
+    ensures gives { Reads (λ x. (x.0.now, x.1.now)) result
+        (first_child (reads_inline depth) bytes.now) }
     ensures small { IfOk result (λ x. length x.0.now ≤ 32) }
     ensures child { IfOk result (λ x. IsPart bytes.entry x.0 (length x.1.now)) }
     ensures took { IfOk result (λ x. length bytes.now ≡ length (string x.0.now) + length x.1.now) }
@@ -209,10 +212,12 @@ fn read_lowest_child(
     bits: u16,
     bytes: &[u8],
 ) -> Result<(Option<&[u8]>, &[u8]), CodecFault>
-    ensures gives { Reads (λ x. (bytes_in x.0, x.1.now)) result (first_lowest_child (reads_inline depth) bits bytes.now) }
+    ensures gives { Reads (λ x. (bytes_in x.0, x.1.now)) result
+        (first_lowest_child (reads_inline depth) bits bytes.now) }
     ensures small { IfOk result (λ x. IfSome x.0 (λ c. length c.now ≤ 32)) }
     ensures child { IfOk result (λ x. IfSome x.0 (λ c. IsPart bytes.entry c (length x.1.now))) }
-    ensures took { IfOk result (λ x. length bytes.now ≡ length (optional_string (bytes_in x.0)) + length x.1.now) }
+    ensures took { IfOk result (λ x. length bytes.now
+        ≡ length (optional_string (bytes_in x.0)) + length x.1.now) }
     ensures rest { IfOk result (λ x. IsPart bytes.entry x.1 0) }
 {
     if bits % 2 == 0 {
@@ -232,12 +237,16 @@ struct Children<'a> {
 // The children of a bitmap's bits.
 #[cycle(inline)]
 fn read_children(depth: u8, bits: u16, bytes: &[u8]) -> Result<Children<'_>, CodecFault>
-    ensures gives { Reads (λ c. (map bytes_in c.found, c.rest.now)) result (first_children (reads_inline depth) 16 bits bytes.now) }
-    ensures small { IfOk result (λ c. (i : ℕ) → IfSome (slice_index_or c.found i None) (λ s. length s.now ≤ 32)) }
+    ensures gives { Reads (λ c. (map bytes_in c.found, c.rest.now)) result
+        (first_children (reads_inline depth) 16 bits bytes.now) }
+    ensures small { IfOk result (λ c. (i : ℕ)
+        → IfSome (slice_index_or c.found i None) (λ s. length s.now ≤ 32)) }
     ensures children { IfOk result (λ c. (i : ℕ) → IfSome (slice_index_or c.found i None)
-        (λ s. IsPart bytes.entry s (length (flat_map optional_string (map bytes_in (drop (i + 1) c.found))) + length c.rest.now))) }
+        (λ s. IsPart bytes.entry s (length
+        (flat_map optional_string (map bytes_in (drop (i + 1) c.found))) + length c.rest.now))) }
     ensures rest { IfOk result (λ c. IsPart bytes.entry c.rest 0) }
-    ensures took { IfOk result (λ c. length bytes.now ≡ length (flat_map optional_string (map bytes_in c.found)) + length c.rest.now) }
+    ensures took { IfOk result (λ c. length bytes.now
+        ≡ length (flat_map optional_string (map bytes_in c.found)) + length c.rest.now) }
 {
     let mut children = Children {
         found: [None; 16],
@@ -261,8 +270,9 @@ fn read_leaf<'a>(
 ) -> Result<(NodeRef<'a>, &'a [u8]), CodecFault>
     requires short { partial_len ≤ 2048 }
     requires whole { length partial.now ≡ (partial_len + 1) / 2 }
-    ensures gives { Reads (λ x. (parts_of x.0, x.1.now)) result (first_leaf (drop (partial_len % 2) (nibbles_of partial.now)) bytes.now) }
-    ensures parts { IfOk result (λ x. LendsParts bytes.entry x.0 (length x.1.now)) }
+    ensures gives { Reads (λ x. (parts_of x.0, x.1.now)) result
+        (first_leaf (drop (partial_len % 2) (nibbles_of partial.now)) bytes.now) }
+    ensures parts { IfOk result (λ x. BorrowsParts bytes.entry x.0 (length x.1.now)) }
     ensures rest { IfOk result (λ x. IsPart bytes.entry x.1 0) }
 {
     let (value, rest) = read_string(bytes)?;
@@ -286,8 +296,9 @@ fn read_branch<'a>(
     requires short { header.nibbles ≤ 2048 }
     requires whole { length partial.now ≡ (header.nibbles + 1) / 2 }
     ensures gives { Reads (λ x. (parts_of x.0, x.1.now)) result
-        (first_branch (reads_inline depth) header.kind (drop (header.nibbles % 2) (nibbles_of partial.now)) bytes.now) }
-    ensures parts { IfOk result (λ x. LendsParts bytes.entry x.0 (length x.1.now)) }
+        (first_branch (reads_inline depth) header.kind
+        (drop (header.nibbles % 2) (nibbles_of partial.now)) bytes.now) }
+    ensures parts { IfOk result (λ x. BorrowsParts bytes.entry x.0 (length x.1.now)) }
     ensures rest { IfOk result (λ x. IsPart bytes.entry x.1 0) }
 {
     let (bits, rest) = read_bitmap(header.kind, bytes)?;
@@ -306,8 +317,9 @@ fn read_branch<'a>(
 #[cycle(inline)]
 #[tactic(auto, unfolding(crate::specs::Reading::first_node))]
 fn read_node(depth: u8, bytes: &[u8]) -> Result<(NodeRef<'_>, &[u8]), CodecFault>
-    ensures gives { Reads (λ x. (parts_of x.0, x.1.now)) result (first_node (reads_inline depth) bytes.now) }
-    ensures parts { IfOk result (λ x. LendsParts bytes.entry x.0 (length x.1.now)) }
+    ensures gives { Reads (λ x. (parts_of x.0, x.1.now)) result
+        (first_node (reads_inline depth) bytes.now) }
+    ensures parts { IfOk result (λ x. BorrowsParts bytes.entry x.0 (length x.1.now)) }
     ensures rest { IfOk result (λ x. IsPart bytes.entry x.1 0) }
 {
     let (header, rest) = read_header(bytes)?;
@@ -329,17 +341,19 @@ fn read_node(depth: u8, bytes: &[u8]) -> Result<(NodeRef<'_>, &[u8]), CodecFault
 }
 
 impl<'a> NodeRef<'a> {
-    /// The node that all of the bytes spell, or the first fault from the left. Its parts are lent from `bytes`. Inline
-    /// children are read too; those that stand as hashes are not looked up.
+    /// The node that all of the bytes spell, or the first fault from the left. Its parts are borrowed from `bytes`. Inline
+    /// children are read too; those that are given by a hash are not looked up.
     #[tactic(auto, unfolding(crate::specs::Reading::node_of_bytes))]
     pub fn read(bytes: &'a [u8]) -> Result<NodeRef<'a>, CodecFault>
         ensures found { IfOk result (λ r. node_of_bytes bytes.entry.now ≡ Ok (parts_of r)) }
         // What is read is the spelling of its parts, and these are the parts of a node.
-        ensures spelled { IfOk result (λ r. IsNode (parts_of r) × (bytes.entry.now ≡ spelling (parts_of r))) }
+        ensures spelled { IfOk result
+            (λ r. IsNode (parts_of r) × (bytes.entry.now ≡ spelling (parts_of r))) }
         // The spelling of a node is read, as that node.
-        ensures only { (n : Node) → IsNode n → bytes.entry.now ≡ spelling n → IsOkAnd result (λ r. parts_of r ≡ n) }
-        // The value and the children are lent from the input, each from where it stands in the node's spelling.
-        ensures lent { IfOk result (λ r. LendsParts bytes.entry r 0) }
+        ensures only { (n : Node) → IsNode n → bytes.entry.now ≡ spelling n
+            → IsOkAnd result (λ r. parts_of r ≡ n) }
+        // The value and the children are borrowed from the input, each from its place in the node's spelling.
+        ensures borrowed { IfOk result (λ r. BorrowsParts bytes.entry r 0) }
         ensures fault { IfErr result (λ f. node_of_bytes bytes.entry.now ≡ Err f) }
     {
         let (node, rest) = read_node(MOST_LEVELS, bytes)?;

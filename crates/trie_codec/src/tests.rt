@@ -6,7 +6,7 @@ use sdb_base::{Bytes, Nibbles, OutOfMemory};
 use std::alloc::Global;
 use std::test::*;
 
-// Bytes that are no node, and their first fault. Where two faults could be named, the second stands after it.
+// Bytes that are no node, and their first fault. Where two faults could be named, the second comes after it.
 const REFUSED: [(&[u8], CodecFault); 37] = [
     (b"", CodecFault::Short),
     (b"\x42\xaa", CodecFault::Short),
@@ -96,7 +96,7 @@ const NODES: [Row; 8] = [
     (b"", None, &[], b"\x00"),
     (b"\x0a\x0a", Some(b""), &[], b"\x42\xaa\x00"),
     (b"\x0a\x0a", Some(b"\x01"), &[], b"\x42\xaa\x04\x01"),
-    // an odd partial key, whose zero half stands in front
+    // an odd partial key, whose zero half comes first
     (b"\x01\x02\x03", Some(b"\x04"), &[], b"\x43\x01\x23\x04\x04"),
     (
         b"\x0a\x0a",
@@ -110,7 +110,7 @@ const NODES: [Row; 8] = [
         &[(10, b"\x40\x04\x01"), (11, b"\x40\x04\x02")],
         b"\x81\x0a\x00\x0c\x0c\x40\x04\x01\x0c\x40\x04\x02",
     ),
-    // a child of 31 bytes stands there itself, one of 32 by its hash
+    // a child of 31 bytes is there itself, one of 32 by its hash
     (
         b"\x0a",
         None,
@@ -134,6 +134,32 @@ const NODES: [Row; 8] = [
         b"\xc0\x01\x00\x00\x24\xc0\x01\x00\x00\x10\x41\x0b\x04\x02",
     ),
 ];
+
+// A key, where in it a leaf's partial key begins, its value, and the leaf's spelling.
+const LEAVES: [(&[u8], usize, &[u8], &[u8]); 5] = [
+    (b"\x12\x34", 0, b"\x07", b"\x44\x12\x34\x04\x07"),
+    (b"\x12\x34", 1, b"\x07", b"\x43\x02\x34\x04\x07"),
+    (b"\x12\x34", 2, b"\x07", b"\x42\x34\x04\x07"),
+    (b"\x12\x34", 3, b"", b"\x41\x04\x00"),
+    (b"\x12\x34", 4, b"\x07\x08", b"\x40\x08\x07\x08"),
+];
+
+#[test]
+fn leaves_of_keys(rt: HostRuntime) -> Result<(), Fail> {
+    for (key, from, value, want) in LEAVES {
+        let spelled = leaf(rt.alloc(), key, from, value)?;
+        assert_eq!(rt; spelled.as_slice(), want, "{key:?} from {from}");
+    }
+    Ok(())
+}
+
+// The spelling of a leaf of a key and a value that are short enough.
+fn leaf(alloc: Global, key: &[u8], from: usize, value: &[u8]) -> Result<Bytes, Fail> {
+    if key.len() > 1024 || from > 2 * key.len() || value.len() > 1024 {
+        return Err(Fail::new("a key or a value that is too long"));
+    }
+    Ok(encode_leaf(alloc, key, from, value)?)
+}
 
 #[test]
 fn faults(rt: HostRuntime) -> Result<(), Fail> {

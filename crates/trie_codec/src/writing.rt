@@ -6,7 +6,7 @@ ghost use Rattle.trie_model.specs.Nibbles.{packed, paired};
 ghost use Rattle.trie_model.specs.Node.{IsPartial, HasCompactLength, IsSpellable, bitmap, branch_kind, has_child, header, optional_string, spelling, spelled};
 ghost use Rattle.sdb_base.specs.Nibbles.{nibbles_of};
 ghost use Rattle.trie_codec.specs.Parts.{leaf_with, node_of, node_with};
-ghost use Rattle.trie_codec.specs.Reads.{bytes_in};
+ghost use Rattle.trie_codec.specs.Slices.{bytes_in};
 
 use crate::plain::Plain;
 use sdb_base::{Bytes, OutOfMemory};
@@ -40,7 +40,8 @@ pub fn encode_parts(
     children: &[Option<Bytes>],
 ) -> Result<Bytes, OutOfMemory>
     requires { IsSpellable (node_with partial.now (bytes_in value) children.now) }
-    ensures { IfOk result (λ bytes. bytes ≡ spelling (node_with partial.now (bytes_in value.entry) children.now)) }
+    ensures { IfOk result (λ bytes. bytes
+        ≡ spelling (node_with partial.now (bytes_in value.entry) children.now)) }
 {
     let is_branch = is_branch(children);
     let mut out = Vec::with_capacity(alloc, room_of(partial, value, is_branch))?;
@@ -57,7 +58,6 @@ pub fn encode_parts(
 
 /// The spelling of a leaf whose partial key is all that `key` has from nibble `from` on, with a value of fewer than 2^30
 /// bytes. `OutOfMemory` comes only for want of memory.
-#[tactic(auto, using(crate::proofs::KeyBytes::length_from), unfolding(trie_model::specs::Node::spelling))]
 pub fn encode_leaf(
     alloc: Global,
     key: &[u8],
@@ -67,7 +67,8 @@ pub fn encode_leaf(
     requires key { length key.now ≤ 1024 }
     requires from { from ≤ 2 * length key.now }
     requires value { length value.now < 2 ^ 30 }
-    ensures { IfOk result (λ bytes. bytes ≡ spelling (leaf_with (drop from (nibbles_of key.now)) value.now)) }
+    ensures { IfOk result (λ bytes. bytes
+        ≡ spelling (leaf_with (drop from (nibbles_of key.now)) value.now)) }
 {
     let len = 2 * key.len() - from;
     let mut out = Vec::with_capacity(alloc, 14 + len / 2 + value.len())?;
@@ -114,7 +115,8 @@ fn is_branch(children: &[Option<Bytes>]) -> bool
 fn put_leaf(out: &mut Vec<u8>, partial: &[u8], value: &[u8]) -> Result<(), AllocError>
     requires partial { IsPartial partial.now }
     requires short { length value.now < 2 ^ 30 }
-    ensures { OnOk result (out.new.items ≡ out.old.items ++ (header 1 (length partial.now) ++ (packed partial.now ++ string value.now))) }
+    ensures { OnOk result (out.new.items ≡ out.old.items
+        ++ (header 1 (length partial.now) ++ (packed partial.now ++ string value.now))) }
 {
     put_header(out, 1, partial.len())?;
     put_packed(out, partial)?;

@@ -22,6 +22,7 @@ one_change m c h w key value e = by_test (bytes_eq c.key key) refl
   where
     found : cond (bytes_eq c.key key) c.value (get m key) ≡ Some value
     found = sym (get-with_key m c.key key c.value) ∙ e
+
     by_test : (t : Bool) → bytes_eq c.key key ≡ t → AreWithin key value
     by_test true is =
         let same : c.key ≡ key = (bytes_eq-Decides c.key key).0 is in

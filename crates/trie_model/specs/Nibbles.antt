@@ -7,6 +7,6 @@ paired [] = []
 paired (n ∷ []) = n ∷ []
 paired (n ∷ (k ∷ ns)) = (16 * n + k) ∷ paired ns
 
--- a partial key's bytes: of an odd count the first nibble stands alone, after a zero half
+-- a partial key's bytes: of an odd count the first nibble has a byte of its own, after a zero half
 abbrev pub packed : List ℕ → List ℕ
 packed ns = if length ns % 2 == 0 then paired ns else paired (0 ∷ ns)

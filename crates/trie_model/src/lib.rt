@@ -2,7 +2,7 @@
 //!
 //! A state is a finite map from byte keys to byte values, and changes apply to it in their order. Its trie is built
 //! from the whole map by longest common prefixes of keys in nibbles; a node has one spelling, and the root is the
-//! hash of the root node's. The definitions stand in `specs/`: `State`, `Limits`, `Nibbles`, `Node` and `Trie`, after the
+//! hash of the root node's. The definitions are in `specs/`: `State`, `Limits`, `Nibbles`, `Node` and `Trie`, after the
 //! Polkadot Host specification with state version 0. The functions are laws about them. How tries are read, made and
 //! changed is left to the layers above.
 #![tactic(auto)]

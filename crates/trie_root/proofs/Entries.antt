@@ -9,7 +9,7 @@ use Rattle.sdb_base.specs.Nibbles.{nibbles_of}
 use Rattle.sdb_base.specs.declared.Pair.{Pair}
 use Rattle.trie_model.specs.Trie.{Suffix, node_of_all, root_node}
 use Rattle.trie_root.specs.Pairs.{AllWithin, KeysRise, entries_of, state_of_pairs}
-use Rattle.trie_root.specs.Groups.{IsGroup, suffixes_from}
+use Rattle.trie_root.specs.inner.Groups.{IsGroup, suffixes_from}
 use Rattle.trie_root.proofs.Ends.{below_all, first_of_and, second_of_and}
 use Rattle.trie_root.proofs.Rising.{nibbles_rise}
 use Rattle.trie_root.proofs.Stripped.{and, true_from_T}

@@ -8,7 +8,7 @@ use Rattle.std.proofs.lemmas.List.{get_or_read, map-append, take_all, take_more}
 use Rattle.sdb_base.specs.Nibbles.{nibbles_of}
 use Rattle.sdb_base.specs.declared.Pair.{Pair}
 use Rattle.trie_model.specs.Trie.{Suffix, common, common_prefix}
-use Rattle.trie_root.specs.Groups.{IsGroup, suffixes_from}
+use Rattle.trie_root.specs.inner.Groups.{IsGroup, suffixes_from}
 use Rattle.trie_root.proofs.Ends.{common_of_ends}
 use Rattle.trie_root.proofs.PairGroups.{suffix_at}
 

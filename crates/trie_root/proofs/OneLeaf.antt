@@ -1,11 +1,8 @@
 -- The node over one pair is a leaf.
-use Rattle.std.proofs.Common.{◌≡◌, ℕ, ◌≤◌, true, eqb, List, [], ◌∷◌, length, get_or, drop, Option, Some, refl, sym, ap, subst, ◌∙◌, arith, eq-eqb}
-use Rattle.sdb_base.specs.Nibbles.{nibbles_of}
-use Rattle.sdb_base.specs.declared.Pair.{Pair}
-use Rattle.trie_model.specs.Node.{Node}
+use Rattle.std.proofs.Common.{◌≡◌, ℕ, true, eqb, List, [], ◌∷◌, Some, refl, ap, ◌∙◌, eq-eqb}
 use Rattle.trie_model.specs.Trie.{Suffix, after_prefix, below, node_of_all, value_here}
 use Rattle.trie_codec.specs.Parts.{leaf_with, node_with}
-use Rattle.trie_root.specs.Groups.{IsGroup, children_over, suffixes_from}
+use Rattle.trie_root.specs.inner.Groups.{children_over}
 use Rattle.trie_root.proofs.OneLevel.{one_level}
 
 after_itself : (ns : List ℕ) → after_prefix ns ns ≡ Some []

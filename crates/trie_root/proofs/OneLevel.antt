@@ -2,7 +2,7 @@
 use Rattle.std.proofs.Common.{◌≡◌, ℕ, suc, List, [], ◌∷◌, ◌++◌, length, Option, refl, ap, ◌∙◌, arith}
 use Rattle.trie_model.specs.Node.{Node}
 use Rattle.trie_model.specs.Trie.{Suffix, below, child_value, common_prefix, levels_of, node_of_all, node_over, every_nibble, value_here}
-use Rattle.trie_root.specs.Groups.{child_below, children_over}
+use Rattle.trie_root.specs.inner.Groups.{child_below, children_over}
 use Rattle.trie_root.proofs.Levels.{levels_below, map_alike, same_child, same_node}
 use Rattle.trie_root.proofs.Prefixes.{below-append}
 

@@ -12,7 +12,7 @@ use Rattle.sdb_base.specs.declared.Pair.{Pair}
 use Rattle.trie_model.specs.Limits.{AreWithin}
 use Rattle.trie_model.specs.Node.{Node}
 use Rattle.trie_model.specs.Trie.{Suffix, below, common_prefix, node_of_all, value_here}
-use Rattle.trie_root.specs.Groups.{GoesOn, IsGroup, children_over, node_between, suffixes_from, value_ending_at}
+use Rattle.trie_root.specs.inner.Groups.{GoesOn, IsGroup, children_over, node_between, suffixes_from, value_ending_at}
 use Rattle.trie_root.proofs.Ends.{below_all, first_of_and, second_of_and}
 use Rattle.trie_root.proofs.Levels.{length-after_prefix}
 use Rattle.trie_root.proofs.Nibble.{length-nibbles_of}

@@ -10,7 +10,7 @@ use Rattle.sdb_base.specs.Nibbles.{nibbles_of}
 use Rattle.sdb_base.specs.declared.Pair.{Pair}
 use Rattle.trie_model.specs.Limits.{AreWithin}
 use Rattle.trie_model.specs.Trie.{Suffix}
-use Rattle.trie_root.specs.Groups.{GoesOn, HasNext, IsGroup, suffixes_from}
+use Rattle.trie_root.specs.inner.Groups.{GoesOn, HasNext, IsGroup, suffixes_from}
 use Rattle.trie_root.proofs.Fronts.{is_sorted-back, is_sorted-front}
 use Rattle.trie_root.proofs.Nibble.{length-nibbles_of}
 use Rattle.trie_root.proofs.Prefixes.{Begins, begins_further, without}

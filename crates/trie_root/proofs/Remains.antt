@@ -11,7 +11,7 @@ use Rattle.std.proofs.lemmas.List.FromFn.{get_or-map-range_with_len}
 use Rattle.sdb_base.specs.Nibbles.{nibbles_of}
 use Rattle.sdb_base.specs.declared.Pair.{Pair}
 use Rattle.trie_model.specs.Trie.{Suffix, below, every_nibble}
-use Rattle.trie_root.specs.Groups.{GoesOn, HasNext, IsOtherNext, child_below, children_over, suffixes_from}
+use Rattle.trie_root.specs.inner.Groups.{GoesOn, HasNext, IsOtherNext, child_below, children_over, suffixes_from}
 use Rattle.trie_root.proofs.Ends.{below_all, first_of_and}
 use Rattle.trie_root.proofs.Fronts.{all_with, none_after, none_with_other}
 use Rattle.trie_root.proofs.PairGroups.{IsLonger, all_next, goes_on-drop, goes_on-take, next_nibble, suffixes_further, suffixes_split}

@@ -1,14 +1,15 @@
 -- The suffixes of a sorted list that go on with a nibble stand in a row.
-use Rattle.std.proofs.Common.{◌≡◌, ℕ, ◌<◌, true, false, eqb, List, [], ◌∷◌, ◌++◌, map, None, T, refl, ap, subst, ◌∙◌, sym, inl, inr, arith, eq-eqb}
+use Rattle.std.proofs.Common.{◌≡◌, ℕ, ◌<◌, Bool, true, false, eqb, All, List, [], ◌∷◌, ◌++◌, map, None, T, refl, ap, subst, ◌∙◌, sym, inl, inr, arith, eq-eqb}
 use Rattle.std.specs.Ordering.{nat_cmp, is_lt}
 use Rattle.std.specs.Cmp.Lexicographic.{slice_cmp}
 use Rattle.std.specs.FinMap.{is_sorted}
 use Rattle.std.specs.Option.{option_map}
 use Rattle.std.proofs.lemmas.Bool.{cases_lt}
 use Rattle.std.proofs.lemmas.List.{append-nil}
-use Rattle.std.proofs.lemmas.List.Elements.{filter_map-append}
+use Rattle.std.proofs.lemmas.List.Elements.{All-cons, All-nil, filter_map-append}
 use Rattle.std.proofs.lemmas.Bool.Decides.{eqb_tells}
 use Rattle.trie_model.specs.Trie.{Suffix, after_prefix, below}
+use Rattle.trie_root.specs.Suffixes.{BeginsWith, IsWithout}
 use Rattle.trie_root.proofs.Ends.{AtMost, at_most_from_lt, below_all, first_of_and, second_of_and}
 use Rattle.trie_root.proofs.Prefixes.{without}
 
@@ -21,9 +22,13 @@ pub record Row (i : ℕ) (ss : List Suffix) : Type 0 where
   pub before : below (i ∷ []) front ≡ []
   pub inside : below (i ∷ []) middle ≡ map (without 1) middle
   pub after : below (i ∷ []) back ≡ []
+  pub begin : All (BeginsWith i) middle
 
 pub unlike : (i n : ℕ) → (i ≡ n → ⊥) → eqb i n ≡ false
 unlike i n h = elim (eqb_tells i n) [ inl t ↦ absurd (h t.1) | inr f ↦ f.0 ]
+
+pub alike : (i n : ℕ) → eqb i n ≡ true → i ≡ n
+alike i n e = elim (eqb_tells i n) [ inl t ↦ t.1 | inr f ↦ absurd cc ]
 
 pub not_with_lower : (i n : ℕ) (ns ts : List ℕ) → i < n → AtMost (n ∷ ns) ts → after_prefix (i ∷ []) ts ≡ None
 not_with_lower i n ns [] h k = absurd k
@@ -47,6 +52,7 @@ passed i s ss none r = record {
   before = rw (none, r.before);
   inside = r.inside;
   after = r.after;
+  begin = r.begin;
 }
 
 begun : (i n : ℕ) (ks v : List ℕ) (ss : List Suffix) (r : Row i ss) → eqb i n ≡ true → r.front ≡ [] → Row i ((n ∷ ks, v) ∷ ss)
@@ -58,6 +64,7 @@ begun i n ks v ss r same none = record {
   before = refl;
   inside = rw (same, r.inside);
   after = r.after;
+  begin = All-cons (BeginsWith i) (n ∷ ks, v) r.middle (ks, ap (λ (m : ℕ). m ∷ ks) (sym (alike i n same))) r.begin;
 }
 
 ended : (i n : ℕ) (ns v : List ℕ) (ss : List Suffix) → i < n → T (below_all (n ∷ ns) ss) → Row i ((n ∷ ns, v) ∷ ss)
@@ -69,6 +76,7 @@ ended i n ns v ss h b = let other : eqb i n ≡ false = unlike i n (λ s. omega 
   before = refl;
   inside = refl;
   after = rw (other, none_with_lower i n ns ss h b);
+  begin = All-nil (BeginsWith i);
 }
 
 -- a row at the very front, as what follows a suffix with the nibble has
@@ -82,7 +90,7 @@ here_next i ns (m ∷ ms) v ss (inl lower) b r = (ended i m ms v ss lower b, ref
 here_next i ns (m ∷ ms) v ss (inr same) b r = (begun i m ms v ss r.0 (eq-eqb i m same.0) r.1, refl)
 
 row_here : (i : ℕ) (ns : List ℕ) (ss : List Suffix) → T (below_all (i ∷ ns) ss) → T (is_sorted (slice_cmp nat_cmp) ss) → AtFront i ss
-row_here i ns [] b s = (record { front = []; middle = []; back = []; parts = refl; before = refl; inside = refl; after = refl }, refl)
+row_here i ns [] b s = (record { front = []; middle = []; back = []; parts = refl; before = refl; inside = refl; after = refl; begin = All-nil (BeginsWith i) }, refl)
 row_here i ns (t ∷ ts) b s =
     here_next i ns t.0 t.1 ts (at_most_from_lt (i ∷ ns) t.0 (first_of_and _ (below_all (i ∷ ns) ts) b))
     (first_of_and (below_all t.0 ts) (is_sorted (slice_cmp nat_cmp) ts) s)
@@ -103,7 +111,7 @@ row_next i (n ∷ ns) v ss b s r =
     ]
 
 pub row : (i : ℕ) (ss : List Suffix) → T (is_sorted (slice_cmp nat_cmp) ss) → Row i ss
-row i [] s = record { front = []; middle = []; back = []; parts = refl; before = refl; inside = refl; after = refl }
+row i [] s = record { front = []; middle = []; back = []; parts = refl; before = refl; inside = refl; after = refl; begin = All-nil (BeginsWith i) }
 row i (t ∷ ts) s =
     let others : T (is_sorted (slice_cmp nat_cmp) ts) = second_of_and (below_all t.0 ts) (is_sorted (slice_cmp nat_cmp) ts) s in
     row_next i t.0 t.1 ts (first_of_and (below_all t.0 ts) (is_sorted (slice_cmp nat_cmp) ts) s) others (row i ts others)
@@ -116,3 +124,19 @@ pub below_row : (i : ℕ) (ss : List Suffix) (r : Row i ss) → below (i ∷ [])
 below_row i ss r =
     ap (below (i ∷ [])) r.parts
     ∙ rw (joined (i ∷ []) r.front (r.middle ++ r.back), joined (i ∷ []) r.middle r.back, r.before, r.inside, r.after) (append-nil (map (without 1) r.middle))
+
+-- where nothing is below a nibble, no suffix begins with it
+without_nibble : (t : Bool) (i n : ℕ) (ns v : List ℕ) (ss : List Suffix) → eqb i n ≡ t → (below (i ∷ []) ss ≡ [] → All (IsWithout i) ss)
+    → below (i ∷ []) ((n ∷ ns, v) ∷ ss) ≡ [] → All (IsWithout i) ((n ∷ ns, v) ∷ ss)
+without_nibble true i n ns v ss is others e = let some : (ns, v) ∷ below (i ∷ []) ss ≡ [] = rw is at e in absurd cc
+without_nibble false i n ns v ss is others e =
+    let none : below (i ∷ []) ss ≡ [] = rw is at e in
+    All-cons (IsWithout i) (n ∷ ns, v) ss (λ b. let same : n ≡ i = first_of n i ns b.0 b.1 in let yes : eqb i n ≡ true = eq-eqb i n (sym same) in absurd cc) (others none)
+  where
+    first_of : (n i : ℕ) (ns rest : List ℕ) → n ∷ ns ≡ i ∷ rest → n ≡ i
+    first_of n i ns rest e = cc
+
+pub none_begin : (i : ℕ) (ss : List Suffix) → below (i ∷ []) ss ≡ [] → All (IsWithout i) ss
+none_begin i [] e = All-nil (IsWithout i)
+none_begin i (([], v) ∷ ss) e = All-cons (IsWithout i) ([], v) ss (λ b. let none : [] ≡ i ∷ b.0 = b.1 in absurd cc) (none_begin i ss e)
+none_begin i ((n ∷ ns, v) ∷ ss) e = without_nibble (eqb i n) i n ns v ss refl (none_begin i ss) e

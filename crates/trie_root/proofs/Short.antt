@@ -8,7 +8,7 @@ use Rattle.sdb_base.specs.declared.Pair.{Pair}
 use Rattle.sdb_blake2.specs.Blake2b.{H, digest}
 use Rattle.trie_model.specs.Node.{HasCompactLength, merkle_value, spelling}
 use Rattle.trie_model.specs.Trie.{Suffix, below, child_value, node_of_all, every_nibble}
-use Rattle.trie_root.specs.Groups.{IsGroup, child_below, children_over}
+use Rattle.trie_root.specs.inner.Groups.{IsGroup, child_below, children_over}
 
 short_hash : (bytes : List ℕ) → length (H bytes) ≤ 32
 unfolding H digest

@@ -1,3 +1,3 @@
 pub mod Pairs
-pub mod Groups
 pub mod Suffixes
+pub mod inner

@@ -1,5 +1,5 @@
--- Suffixes and entries within their limits.
-use Rattle.std.specs.Prelude.{ℕ, ◌<◌, ◌≤◌, List, length, All}
+-- Suffixes and entries within their limits, and by their first nibbles.
+use Rattle.std.specs.Prelude.{◌≡◌, ℕ, ◌<◌, ◌≤◌, List, ◌∷◌, length, All}
 use Rattle.trie_model.specs.Limits.{AreWithin, most_in_value}
 use Rattle.trie_model.specs.Trie.{Suffix}
 
@@ -15,3 +15,11 @@ pub record IsEntry (e : List ℕ × List ℕ) : Type 0 where
   pub within : AreWithin e.0 e.1
   pub key : All (λ b. b < 256) e.0
   pub value : All (λ b. b < 256) e.1
+
+-- a suffix that begins with the nibble
+abbrev pub BeginsWith : ℕ → Suffix → Type 0
+BeginsWith nibble s = (rest : List ℕ) × (s.0 ≡ nibble ∷ rest)
+
+-- a suffix that doesn't
+abbrev pub IsWithout : ℕ → Suffix → Type 0
+IsWithout nibble s = BeginsWith nibble s → ⊥

@@ -1,9 +1,10 @@
-ghost use Rattle.std.specs.Prelude.{◌≡◌, ℕ, ◌≤◌, List, ◌∷◌, ◌++◌, [], IsTrue, drop, length, map, Some, None, ◌==◌, if◌then◌else◌};
+ghost use Rattle.std.specs.Prelude.{◌≡◌, ℕ, ◌≤◌, List, ◌∷◌, ◌++◌, [], All, IsTrue, drop, length, map, Some, None, ◌==◌, if◌then◌else◌};
 ghost use Rattle.std.specs.Ordering.{is_lt, nat_cmp};
 ghost use Rattle.std.specs.Cmp.Lexicographic.{slice_cmp};
 ghost use Rattle.std.specs.FinMap.{is_sorted};
 ghost use Rattle.sdb_base.specs.Nibbles.{nibbles_of};
 ghost use Rattle.trie_model.specs.Trie.{Suffix, below, common, common_prefix, levels_of, node_over, value_here};
+ghost use Rattle.trie_root.specs.Suffixes.{BeginsWith, IsWithout};
 
 /// A node over some suffixes has at most as many levels as the longest has nibbles, and one: a larger bound gives the
 /// same node.
@@ -14,11 +15,12 @@ pub fn more_levels_change_nothing()
 
 /// What all suffixes of a sorted list share is what its first and its last share.
 pub fn ends_share_the_prefix()
-    ensures { (first last : Suffix) (between : List Suffix) → IsTrue (is_sorted (slice_cmp nat_cmp) (first ∷ (between ++ last ∷ [])))
+    ensures { (first last : Suffix) (between : List Suffix)
+        → IsTrue (is_sorted (slice_cmp nat_cmp) (first ∷ (between ++ last ∷ [])))
         → common_prefix (first ∷ (between ++ last ∷ [])) ≡ common first.0 last.0 }
 {}
 
-/// All suffixes go on with what they share, and stand in their order without it.
+/// All suffixes go on with what they share, and keep their order without it.
 pub fn all_go_on_with_the_shared_prefix()
     ensures { (suffixes : List Suffix) → below (common_prefix suffixes) suffixes
         ≡ map (λ (s : Suffix). (drop (length (common_prefix suffixes)) s.0, s.1)) suffixes }
@@ -26,13 +28,16 @@ pub fn all_go_on_with_the_shared_prefix()
 
 /// The suffixes below two prefixes, one after the other.
 pub fn prefixes_follow_one_another()
-    ensures { (p q : List ℕ) (suffixes : List Suffix) → below (p ++ q) suffixes ≡ below q (below p suffixes) }
+    ensures { (p q : List ℕ) (suffixes : List Suffix) → below (p ++ q) suffixes
+        ≡ below q (below p suffixes) }
 {}
 
-/// The suffixes of a sorted list that go on with a nibble stand in a row.
+/// The suffixes of a sorted list that begin with a nibble are in a row: none before it and none after it does.
 pub fn a_nibble_is_a_row()
     ensures { (nibble : ℕ) (suffixes : List Suffix) → IsTrue (is_sorted (slice_cmp nat_cmp) suffixes)
-        → (front : List Suffix) × (row : List Suffix) × (back : List Suffix) × (suffixes ≡ front ++ (row ++ back))
+        → (front : List Suffix) × (row : List Suffix) × (back : List Suffix)
+        × (suffixes ≡ front ++ (row ++ back))
+        × All (IsWithout nibble) front × All (BeginsWith nibble) row × All (IsWithout nibble) back
         × (below (nibble ∷ []) suffixes ≡ map (λ (s : Suffix). (drop 1 s.0, s.1)) row) }
 {}
 
@@ -44,7 +49,8 @@ pub fn order_stays_below_the_shared_prefix()
 
 /// In a sorted list only the first can be the suffix of no nibbles.
 pub fn a_value_stands_first()
-    ensures { (first : Suffix) (others : List Suffix) → IsTrue (is_sorted (slice_cmp nat_cmp) (first ∷ others))
+    ensures { (first : Suffix) (others : List Suffix)
+        → IsTrue (is_sorted (slice_cmp nat_cmp) (first ∷ others))
         → value_here (first ∷ others) ≡ (if length first.0 == 0 then Some first.1 else None) }
 {}
 

@@ -3,8 +3,8 @@
 //!
 //! Contracts see pairs as a list, and the state as the map of its entries. `root_of` promises the root that the trie's
 //! definition gives this map. It goes down the trie once: pairs that agree in their first nibbles are a sub-slice, the
-//! node over them has as partial key what the first and the last go on to share, and each of its children stands over a
-//! sub-slice of the others, by their next nibble. Keys are lent; only partial keys, values and Merkle values are copied.
+//! node over them has as partial key what the first and the last go on to share, and each of its children is the node over a
+//! sub-slice of the others, by their next nibble. Keys and values are borrowed; only spellings and Merkle values are made.
 //!
 //! The laws run nothing. Those of `laws` say why sub-slices of sorted pairs follow a definition over whole lists of
 //! suffixes. Those of `tries` say that the definition means what it should: what is read off a trie is the state, and

@@ -3,16 +3,16 @@ ghost use Rattle.sdb_base.specs.Nibbles.{nibbles_of};
 ghost use Rattle.trie_model.specs.Limits.{AreWithin};
 ghost use Rattle.trie_model.specs.Node.{HasCompactLength, merkle_value, spelling};
 ghost use Rattle.trie_model.specs.Trie.{child_value, common, common_prefix, node_of_all, trie_root};
-ghost use Rattle.trie_codec.specs.Reads.{bytes_in};
+ghost use Rattle.trie_codec.specs.Slices.{bytes_in};
 ghost use Rattle.trie_root.specs.Pairs.{AllWithin, KeysRise, state_of_pairs};
-ghost use Rattle.trie_root.specs.Groups.{GoesOn, HasNext, IsOtherNext, IsGroup, children_over, node_between, suffixes_from, value_ending_at};
+ghost use Rattle.trie_root.specs.inner.Groups.{GoesOn, HasNext, IsOtherNext, IsGroup, children_over, node_between, suffixes_from, value_ending_at};
 
 use sdb_base::{Bytes, Nibbles, NodeHash, OutOfMemory, Pair, Pairs};
 use sdb_blake2::hash256;
 use std::alloc::Global;
 use trie_codec::{ChildList, Plain, encode, encode_leaf, encode_parts};
 
-// A spelling of at least as many bytes stands as its hash.
+// A spelling of at least as many bytes is replaced by its hash.
 const HASH_LEN: usize = 32;
 
 /// The root of the state of these keys and values: the hash of its trie's root node. Keys rise strictly, each of at
@@ -90,7 +90,8 @@ fn children_of(alloc: Global, pairs: &[Pair], at: usize) -> Result<Vec<Option<By
 fn child_of(alloc: Global, pairs: &[Pair], at: usize) -> Result<Option<Bytes>, OutOfMemory>
     requires at { at ≤ 2048 }
     requires group { IsGroup (at + 1) pairs.now }
-    ensures { IfOk result (λ child. child ≡ child_value node_of_all (suffixes_from (at + 1) pairs.now)) }
+    ensures { IfOk result (λ child. child
+        ≡ child_value node_of_all (suffixes_from (at + 1) pairs.now)) }
 {
     if pairs.is_empty() {
         return Ok(None);
@@ -152,7 +153,8 @@ fn going_on(pairs: &[Pair], at: usize) -> &[Pair]
     requires some { 1 ≤ length pairs.now }
     requires group { IsGroup at pairs.now }
     ensures on { GoesOn at result.now }
-    ensures same { children_over (suffixes_from at result.now) ≡ children_over (suffixes_from at pairs.now) }
+    ensures same { children_over (suffixes_from at result.now)
+        ≡ children_over (suffixes_from at pairs.now) }
 {
     if 2 * pairs[0].key.len() == at {
         &pairs[1..]
@@ -202,7 +204,8 @@ fn nibbles_between(
 ) -> Result<Nibbles, OutOfMemory>
     requires rises { from ≤ end }
     requires end { end ≤ 2 * length key.now }
-    ensures value { IfOk result (λ nibbles. nibbles ≡ take (end - from) (drop from (nibbles_of key.now))) }
+    ensures value { IfOk result (λ nibbles. nibbles
+        ≡ take (end - from) (drop from (nibbles_of key.now))) }
     ensures below { IfOk result (λ nibbles. All (λ n. n < 16) nibbles) }
 {
     let mut nibbles = Vec::with_capacity(alloc, end - from)?;

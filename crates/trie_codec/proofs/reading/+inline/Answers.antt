@@ -6,12 +6,12 @@ use Rattle.std.proofs.lemmas.List.Elements.{All-from_get_or}
 use Rattle.std.proofs.lemmas.Grind.{take-set_at}
 use Rattle.std.specs.Borrow.{Bor}
 use Rattle.trie_model.specs.Node.{optional_string}
-use Rattle.trie_codec.specs.Reads.{bytes_in}
+use Rattle.trie_codec.specs.Slices.{bytes_in}
 use Rattle.trie_codec.specs.Places.{IsPart}
 use Rattle.trie_codec.specs.Reading.{first_children, reads_inline}
 use Rattle.trie_codec.proofs.Children.{goes_on, ends, is_done}
-use Rattle.trie_codec.proofs.Lent.{after_next, more_taken, none_from_next, none_lent, one_more_after, one_more_lent, same_after}
-use Rattle.trie_codec.proofs.Places.{lends_within, part_within, some_within}
+use Rattle.trie_codec.proofs.Slices.{after_next, more_taken, none_from_next, none_borrowed, one_more_after, one_more_lent, same_after}
+use Rattle.trie_codec.proofs.Places.{borrows_within, part_within, some_within}
 use Rattle.trie_codec.proofs.Taken.{string_took}
 use Rattle.trie_codec.proofs.reading.+inline.Goals as goal
 
@@ -94,7 +94,7 @@ pub read_node-returns-then-header-eq1-clause-parts : goal.read_node-returns-then
 read_node-returns-then-header-eq1-clause-parts t c =
     let rest = c.in_ok-partial.rest in
     let after = part_within c.args.bytes c.in_ok-header.rest rest 0 c.in_ok-header.ensures.rest c.in_ok-partial.ensures.rest in
-    IfOk-weaker c.read_leaf.result _ _ (λ x lends. lends_within c.args.bytes rest x.0 (length x.1.now) after lends) c.read_leaf.ensures.parts
+    IfOk-weaker c.read_leaf.result _ _ (λ x lends. borrows_within c.args.bytes rest x.0 (length x.1.now) after lends) c.read_leaf.ensures.parts
 
 pub read_node-returns-then-header-eq1-clause-rest : goal.read_node-returns-then-header-eq1-clause-rest
 read_node-returns-then-header-eq1-clause-rest t c =
@@ -106,7 +106,7 @@ pub read_node-returns-else-header-eq1-clause-parts : goal.read_node-returns-else
 read_node-returns-else-header-eq1-clause-parts t c =
     let rest = c.in_ok-partial.rest in
     let after = part_within c.args.bytes c.in_ok-header.rest rest 0 c.in_ok-header.ensures.rest c.in_ok-partial.ensures.rest in
-    IfOk-weaker c.read_branch.result _ _ (λ x lends. lends_within c.args.bytes rest x.0 (length x.1.now) after lends) c.read_branch.ensures.parts
+    IfOk-weaker c.read_branch.result _ _ (λ x lends. borrows_within c.args.bytes rest x.0 (length x.1.now) after lends) c.read_branch.ensures.parts
 
 pub read_node-returns-else-header-eq1-clause-rest : goal.read_node-returns-else-header-eq1-clause-rest
 read_node-returns-else-header-eq1-clause-rest t c =
@@ -115,4 +115,4 @@ read_node-returns-else-header-eq1-clause-rest t c =
     IfOk-weaker c.read_branch.result _ _ (λ x part. part_within c.args.bytes rest x.1 0 after part) c.read_branch.ensures.rest
 
 pub read_node-invariant_of-empty-clause-small : goal.read_node-invariant_of-empty-clause-small
-read_node-invariant_of-empty-clause-small t c = λ i. none_lent (λ s. length s.now ≤ 32) 16 i
+read_node-invariant_of-empty-clause-small t c = λ i. none_borrowed (λ s. length s.now ≤ 32) 16 i

@@ -1,13 +1,13 @@
 use Rattle.std.proofs.Common.{◌≡◌, ◌+◌, ◌≤◌, length, subst, arith}
 use Rattle.trie_codec.specs.Places.{IsPart}
-use Rattle.trie_codec.proofs.Lent.{none_lent}
+use Rattle.trie_codec.proofs.Slices.{none_borrowed}
 use Rattle.trie_codec.proofs.reading.read_leaf.Goals as goal
 
 pub returns-clause-parts : goal.returns-clause-parts
 returns-clause-parts c =
     let n = length c.in_ok-value.rest.now in
     let after : n ≡ 0 + n = omega arith in
-    (subst (IsPart c.args.bytes c.in_ok-value.value) after c.in_ok-value.ensures.string, (λ i. none_lent _ 16 i))
+    (subst (IsPart c.args.bytes c.in_ok-value.value) after c.in_ok-value.ensures.string, (λ i. none_borrowed _ 16 i))
 
 pub invariant_of-leaf-clause-small : goal.invariant_of-leaf-clause-small
-invariant_of-leaf-clause-small c = λ i. none_lent (λ s. length s.now ≤ 32) 16 i
+invariant_of-leaf-clause-small c = λ i. none_borrowed (λ s. length s.now ≤ 32) 16 i

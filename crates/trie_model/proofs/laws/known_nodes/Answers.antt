@@ -5,7 +5,7 @@ use Rattle.trie_model.specs.Trie.{node_over}
 use Rattle.trie_model.proofs.laws.known_nodes.Goals as goal
 
 pub returns-clause-headers : goal.returns-clause-headers
-returns-clause-headers c = (refl, refl, refl, refl)
+returns-clause-headers c = (refl, refl, refl, refl, refl, refl, refl, refl, refl)
 
 pub returns-clause-nothing : goal.returns-clause-nothing
 unfolding spelling node_over

@@ -6,7 +6,7 @@ use Rattle.std.specs.Prelude.{IfSome}
 use Rattle.sdb_base.specs.declared.Pair.{Pair}
 use Rattle.trie_model.specs.Node.{HasCompactLength, spelling}
 use Rattle.trie_model.specs.Trie.{child_value, common_prefix, node_of_all}
-use Rattle.trie_root.specs.Groups.{IsGroup, child_below, children_over, node_between, suffixes_from}
+use Rattle.trie_root.specs.inner.Groups.{IsGroup, child_below, children_over, node_between, suffixes_from}
 use Rattle.trie_root.proofs.OneNode.{end_of, node_of_pairs, group_further}
 use Rattle.trie_root.proofs.PairGroups.{goes_on-take, group_of_next}
 use Rattle.trie_root.proofs.Remains.{Remains, all_remains, first_children, first_children-all, first_children-push, first_children-none, remains_further, group_below}

@@ -1,5 +1,5 @@
 use Rattle.std.proofs.Common.{◌≡◌, ◌≤◌, ◌+◌, ◌-◌, ◌*◌, length}
-use Rattle.trie_root.specs.Groups.{suffixes_from}
+use Rattle.trie_root.specs.inner.Groups.{suffixes_from}
 use Rattle.trie_root.proofs.Remains.{Remains, first_children}
 use Rattle.trie_root.proofs.root.+nodes.Given as goal
 

@@ -2,7 +2,7 @@ use Rattle.std.proofs.Common.{◌≡◌, ℕ, ◌*◌, ◌≤◌, List, [], ◌�
 use Rattle.std.proofs.lemmas.List.{take_rest}
 use Rattle.std.proofs.lemmas.List.Elements.{All-head}
 use Rattle.sdb_base.specs.declared.Pair.{Pair}
-use Rattle.trie_root.specs.Groups.{GoesOn, IsGroup, children_over, suffixes_from}
+use Rattle.trie_root.specs.inner.Groups.{GoesOn, IsGroup, children_over, suffixes_from}
 use Rattle.trie_root.proofs.OneNode.{all_go_on, others_go_on, same_children}
 use Rattle.trie_root.proofs.root.going_on.Goals as goal
 

@@ -2,7 +2,7 @@ use Rattle.std.proofs.Common.{List, ℕ, ap, sym, ◌∙◌}
 use Rattle.std.specs.Prelude.{slice_index}
 use Rattle.std.proofs.lemmas.List.Elements.{All-more, at_read}
 use Rattle.sdb_base.specs.Nibbles.{nibbles_of}
-use Rattle.trie_root.specs.Groups.{HasNext}
+use Rattle.trie_root.specs.inner.Groups.{HasNext}
 use Rattle.trie_root.proofs.root.group_len.Goals as goal
 
 pub loop-i-preserved : goal.loop-i-preserved

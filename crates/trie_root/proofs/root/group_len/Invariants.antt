@@ -1,5 +1,5 @@
 use Rattle.std.proofs.Common.{All, take}
-use Rattle.trie_root.specs.Groups.{HasNext}
+use Rattle.trie_root.specs.inner.Groups.{HasNext}
 use Rattle.trie_root.proofs.root.group_len.Given as goal
 
 -- all pairs so far go on with the nibble

@@ -3,7 +3,7 @@ use Rattle.sdb_base.specs.declared.Pair.{Pair}
 use Rattle.sdb_blake2.specs.Blake2b.{H}
 use Rattle.trie_model.specs.Node.{spelling}
 use Rattle.trie_model.specs.Trie.{node_of_all, trie_root}
-use Rattle.trie_root.specs.Groups.{IsGroup, suffixes_from}
+use Rattle.trie_root.specs.inner.Groups.{IsGroup, suffixes_from}
 use Rattle.trie_root.proofs.Entries.{root_of_pairs, group_of_keys}
 use Rattle.trie_root.proofs.root.root_of.Goals as goal
 use Rattle.trie_root.proofs.root.root_of.Goals.{then-is_empty+in_ok-spelled, else-is_empty+in_ok-spelled-2}

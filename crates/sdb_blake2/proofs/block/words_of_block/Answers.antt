@@ -1,11 +1,11 @@
 use Rattle.std.proofs.Common.{rules, ◌≡◌, sym, ◌∙◌, arith}
 use Rattle.std.proofs.lemmas.List.{take_all}
-use Rattle.sdb_blake2.specs.Blake2b.{block_words}
+use Rattle.sdb_blake2.specs.Blake2b.{words_of_block}
 use Rattle.sdb_blake2.proofs.Blocks.{words_more}
-use Rattle.sdb_blake2.proofs.block.block_words.Goals as goal
+use Rattle.sdb_blake2.proofs.block.words_of_block.Goals as goal
 
 pub load-init : goal.load-init
-unfolding block_words
+unfolding words_of_block
 load-init c = search rules
 
 pub load-preserved : goal.load-preserved

@@ -1,4 +1,4 @@
--- A step of reading a branch that stands with others in the definition of a node.
+-- A step of reading a branch, which the definition of a node takes with others.
 use Rattle.std.specs.Prelude.{ℕ, ◌%◌, ◌==◌, Bool, List, Option, Some, None, if◌then◌else◌, Result, Ok}
 use Rattle.trie_codec.specs.declared.fault.CodecFault.{CodecFault}
 use Rattle.trie_codec.specs.Reading.{◌>>=◌, first_child}

@@ -4,21 +4,21 @@ use Rattle.std.specs.Prelude.{IfSome}
 use Rattle.std.specs.List.{flat_map}
 use Rattle.std.specs.Borrow.{Bor}
 use Rattle.trie_model.specs.Node.{optional_string}
-use Rattle.trie_codec.specs.Reads.{bytes_in}
+use Rattle.trie_codec.specs.Slices.{bytes_in}
 
 -- the spelling of children that are lent
-abbrev pub lent_bytes : List (Option (Bor (List ℕ))) → List ℕ
-lent_bytes cs = flat_map optional_string (map bytes_in cs)
+abbrev pub slice_bytes : List (Option (Bor (List ℕ))) → List ℕ
+slice_bytes cs = flat_map optional_string (map bytes_in cs)
 
 -- what holds of a child that is there, by how many bytes stand after it
 abbrev pub HoldsBefore : (Bor (List ℕ) → ℕ → Type 0) → List (Option (Bor (List ℕ))) → ℕ → ℕ → Type 0
-HoldsBefore P cs rest k = IfSome (get_or cs k None) (λ s. P s (length (lent_bytes (drop (suc k) cs)) + rest))
+HoldsBefore P cs rest k = IfSome (get_or cs k None) (λ s. P s (length (slice_bytes (drop (suc k) cs)) + rest))
 
 -- no child is lent where none is there
-pub none_lent : (P : Bor (List ℕ) → Type 0) (n i : ℕ) → IfSome (get_or (replicate n None) i None) P
-none_lent P zero i = tt
-none_lent P (suc n) zero = tt
-none_lent P (suc n) (suc i) = none_lent P n i
+pub none_borrowed : (P : Bor (List ℕ) → Type 0) (n i : ℕ) → IfSome (get_or (replicate n None) i None) P
+none_borrowed P zero i = tt
+none_borrowed P (suc n) zero = tt
+none_borrowed P (suc n) (suc i) = none_borrowed P n i
 
 -- one child more that is lent
 pub one_more_lent : (P : Bor (List ℕ) → Type 0) (children : List (Option (Bor (List ℕ)))) (i : ℕ) (child : Option (Bor (List ℕ))) → ((k : ℕ) → IfSome (get_or children k None) P) → IfSome child P
@@ -33,7 +33,7 @@ one_more_lent P (c ∷ cs) (suc i) child before now (suc k) = one_more_lent P cs
 abbrev pub NoneFrom : ℕ → List (Option (Bor (List ℕ))) → Type 0
 NoneFrom i cs = (k : ℕ) → i ≤ k → get_or cs k None ≡ None
 
-none_spelled : (cs : List (Option (Bor (List ℕ)))) → NoneFrom 0 cs → lent_bytes cs ≡ []
+none_spelled : (cs : List (Option (Bor (List ℕ)))) → NoneFrom 0 cs → slice_bytes cs ≡ []
 none_spelled [] none = refl
 none_spelled (c ∷ cs) none =
     let first : c ≡ None = none 0 (omega arith) in
@@ -41,13 +41,13 @@ none_spelled (c ∷ cs) none =
 
 -- a child where there was none adds its spelling
 more_spelled : (cs : List (Option (Bor (List ℕ)))) (i : ℕ) (child : Option (Bor (List ℕ))) → i < length cs → get_or cs i None ≡ None
-    → length (lent_bytes (set cs i child)) ≡ length (lent_bytes cs) + length (optional_string (bytes_in child))
+    → length (slice_bytes (set cs i child)) ≡ length (slice_bytes cs) + length (optional_string (bytes_in child))
 more_spelled [] i child lt none = absurd (omega arith)
 more_spelled (c ∷ cs) zero child lt none =
     let first : c ≡ None = none in
-    rw first (omega (arith, length-append (optional_string (bytes_in child)) (lent_bytes cs)))
+    rw first (omega (arith, length-append (optional_string (bytes_in child)) (slice_bytes cs)))
 more_spelled (c ∷ cs) (suc i) child lt none =
-    omega (arith, length-append (optional_string (bytes_in c)) (lent_bytes cs), length-append (optional_string (bytes_in c)) (lent_bytes (set cs i child)), more_spelled cs i child (omega arith) none)
+    omega (arith, length-append (optional_string (bytes_in c)) (slice_bytes cs), length-append (optional_string (bytes_in c)) (slice_bytes (set cs i child)), more_spelled cs i child (omega arith) none)
 
 pub same_after : (P : Bor (List ℕ) → ℕ → Type 0) (c : Option (Bor (List ℕ))) (a b : ℕ) → a ≡ b → IfSome c (λ s. P s a) → IfSome c (λ s. P s b)
 same_after P c a b e h = subst (λ n. IfSome c (λ s. P s n)) e h
@@ -58,25 +58,25 @@ pub one_more_after : (P : Bor (List ℕ) → ℕ → Type 0) (cs : List (Option 
     → IfSome child (λ s. P s after) → (k : ℕ) → HoldsBefore P (set cs i child) after k
 one_more_after P [] i child before after lt none took each_after now k = absurd (omega arith)
 one_more_after P (c ∷ cs) zero child before after lt none took each_after now zero =
-    let empty : lent_bytes cs ≡ [] = none_spelled cs (λ k h. none (suc k) (omega arith)) in
-    same_after P child after (length (lent_bytes cs) + after) (omega (arith, ap length empty)) now
+    let empty : slice_bytes cs ≡ [] = none_spelled cs (λ k h. none (suc k) (omega arith)) in
+    same_after P child after (length (slice_bytes cs) + after) (omega (arith, ap length empty)) now
 one_more_after P (c ∷ cs) zero child before after lt none took each_after now (suc k) =
     let gone : get_or cs k None ≡ None = none (suc k) (omega arith) in
     rw gone tt
 one_more_after P (c ∷ cs) (suc i) child before after lt none took each_after now zero =
-    same_after P c (length (lent_bytes cs) + before) (length (lent_bytes (set cs i child)) + after)
+    same_after P c (length (slice_bytes cs) + before) (length (slice_bytes (set cs i child)) + after)
     (omega (arith, more_spelled cs i child (omega arith) (none (suc i) (omega arith)))) (each_after zero)
 one_more_after P (c ∷ cs) (suc i) child before after lt none took each_after now (suc k) =
     one_more_after P cs i child before after (omega arith) (λ j h. none (suc j) (omega arith)) took (λ j. each_after (suc j)) now k
 
 -- the same with the next place as code counts it
 pub after_next : (P : Bor (List ℕ) → ℕ → Type 0) (cs : List (Option (Bor (List ℕ)))) (rest : ℕ) → ((k : ℕ) → HoldsBefore P cs rest k)
-    → (k : ℕ) → IfSome (get_or cs k None) (λ s. P s (length (lent_bytes (drop (k + 1) cs)) + rest))
-after_next P cs rest each_after k = subst (λ j. IfSome (get_or cs k None) (λ s. P s (length (lent_bytes (drop j cs)) + rest))) (sym (add-one k)) (each_after k)
+    → (k : ℕ) → IfSome (get_or cs k None) (λ s. P s (length (slice_bytes (drop (k + 1) cs)) + rest))
+after_next P cs rest each_after k = subst (λ j. IfSome (get_or cs k None) (λ s. P s (length (slice_bytes (drop j cs)) + rest))) (sym (add-one k)) (each_after k)
 
 -- all bytes that were taken are the children's
 pub more_taken : (cs : List (Option (Bor (List ℕ)))) (i : ℕ) (child : Option (Bor (List ℕ))) (total before after : ℕ) → i < length cs → NoneFrom i cs
-    → before ≡ length (optional_string (bytes_in child)) + after → total ≡ length (lent_bytes cs) + before → total ≡ length (lent_bytes (set cs i child)) + after
+    → before ≡ length (optional_string (bytes_in child)) + after → total ≡ length (slice_bytes cs) + before → total ≡ length (slice_bytes (set cs i child)) + after
 more_taken cs i child total before after lt none took so_far = omega (arith, more_spelled cs i child lt (none i (omega arith)))
 
 -- none from the next one on
