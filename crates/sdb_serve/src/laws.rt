@@ -1,8 +1,33 @@
-ghost use Rattle.std.specs.Prelude.{◌≡◌, ℕ, List};
-ghost use Rattle.sdb_serve.specs.Runs.{IsFirstBad, IsScript};
+ghost use Rattle.std.specs.Prelude.{◌≡◌, ℕ, List, [], ◌∷◌, Some, None};
+ghost use Rattle.sdb_serve.specs.Runs.{IsFirstBad, IsScript, last_line, usage_line};
+ghost use Rattle.sdb_serve.specs.Session.{SessionState, play_line};
+ghost use Rattle.sdb_serve.specs.Statuses.{status_code, status_of};
+
+use crate::cause::Cause;
 
 /// An input has one first bad line, or none where it is a script.
 pub fn first_bad_line_is_one()
     ensures one { (input : List ℕ) (m n : ℕ) → IsFirstBad input m → IsFirstBad input n → m ≡ n }
     ensures none { (input : List ℕ) (n : ℕ) → IsScript input → IsFirstBad input n → ⊥ }
+{}
+
+/// A script may have 1,099,511,627,776 bytes: an empty line, of one byte, is answered where it is the last of them, and
+/// not after it.
+pub fn a_script_has_its_most_bytes()
+    ensures last { (s : SessionState) → play_line (record s { read = 1099511627775 }) [] ≡ Some ([], record s { read = 1099511627776 }) }
+    ensures one_more { (s : SessionState) → play_line (record s { read = 1099511627776 }) [] ≡ None }
+{}
+
+/// How a run ends for each cause, after 6 lines that were answered: its exit status and its last line.
+pub fn known_ends()
+    ensures end { (status_code (status_of Cause.End) ≡ 0) × (last_line Cause.End 6 ≡ []) }
+    // "stop 3 line 7"
+    ensures bad_line { (status_code (status_of Cause.BadLine) ≡ 3) × (last_line Cause.BadLine 6
+        ≡ (115 ∷ 116 ∷ 111 ∷ 112 ∷ 32 ∷ 51 ∷ 32 ∷ 108 ∷ 105 ∷ 110 ∷ 101 ∷ 32 ∷ 55 ∷ 10 ∷ []) ∷ []) }
+    // "stop 4", "stop 11" and "stop 2"
+    ensures source { (status_code (status_of Cause.Source) ≡ 4) × (last_line Cause.Source 6
+        ≡ (115 ∷ 116 ∷ 111 ∷ 112 ∷ 32 ∷ 52 ∷ 10 ∷ []) ∷ []) }
+    ensures memory { (status_code (status_of Cause.Memory) ≡ 11) × (last_line Cause.Memory 6
+        ≡ (115 ∷ 116 ∷ 111 ∷ 112 ∷ 32 ∷ 49 ∷ 49 ∷ 10 ∷ []) ∷ []) }
+    ensures usage { usage_line ≡ 115 ∷ 116 ∷ 111 ∷ 112 ∷ 32 ∷ 50 ∷ 10 ∷ [] }
 {}

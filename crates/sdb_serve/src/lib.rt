@@ -19,7 +19,7 @@ mod status;
 
 pub use cause::Cause;
 pub use entry::run;
-pub use laws::first_bad_line_is_one;
+pub use laws::{a_script_has_its_most_bytes, first_bad_line_is_one, known_ends};
 pub use status::Status;
 
 #[cfg(test)]

@@ -1,6 +1,10 @@
+ghost use Rattle.std.specs.Prelude.{◌≡◌, ◌≤◌, length, is_err, IfOk};
+ghost use Rattle.sdb_io.specs.Faults.{CountsFault};
+ghost use Rattle.sdb_io.specs.Memory.{failed_takes};
+
 use super::*;
 use sdb_base::{Bytes, Words};
-use sdb_io::{MemSink, MemSource};
+use sdb_io::{MemSink, MemSource, Source, SourceFault};
 use std::alloc::{AllocError, Global};
 use std::test::*;
 
@@ -71,7 +75,7 @@ const ANSWERED: [(&str, &str); 14] = [
 ];
 
 // Scripts that stop at a bad line, and what is written up to it.
-const STOPPED: [(&str, &str); 10] = [
+const STOPPED: [(&str, &str); 12] = [
     // the last line has no line feed
     ("new 0|genesis 01 4", "new|stop 3 line 2|"),
     // comments and empty lines are counted
@@ -92,6 +96,8 @@ const STOPPED: [(&str, &str); 10] = [
         "new|genesis|stop 3 line 3|",
     ),
     ("genesis 01 4|", "stop 3 line 1|"),
+    ("new 0|new 0|genesis 01 4|", "new|stop 3 line 2|"),
+    ("new 0|import 02 01|", "new|stop 3 line 2|"),
     // words that begin no line
     ("open|", "stop 3 line 1|"),
     ("new 0|genesis 01 4|canon 01|", "new|genesis|stop 3 line 3|"),
@@ -106,14 +112,14 @@ const OTHER_WORDS: [&[&str]; 5] = [
     &["scripts"],
 ];
 
-// The call of the source and that of the sink that fail, the words, the input, the status and what is written.
-const FAULTS: [(Option<u64>, Option<u64>, &[&str], &str, Status, &str); 4] = [
+// The call of the source and that of the sink that fail, the words, the input, the exit code and what is written.
+const FAULTS: [(Option<u64>, Option<u64>, &[&str], &str, u8, &str); 5] = [
     (
         None,
         Some(2),
         &["script"],
         "new 0|genesis 01 4 aa=01 bb=07|import 02 01 aa=02|read 02 aa|",
-        Status::SinkFault,
+        5,
         "new|genesis|",
     ),
     (
@@ -121,16 +127,18 @@ const FAULTS: [(Option<u64>, Option<u64>, &[&str], &str, Status, &str); 4] = [
         None,
         &["script"],
         "new 0|",
-        Status::SourceFault,
+        4,
         "new|stop 4|",
     ),
-    (None, Some(0), &["-h"], "", Status::SinkFault, ""),
+    (None, Some(0), &["-h"], "", 5, ""),
+    // both fail: the source, and the sink at the last line for it
+    (Some(1), Some(1), &["script"], "new 0|", 5, "new|"),
     (
         None,
         Some(1),
         &["script"],
         "new 0|read 01 aa|",
-        Status::SinkFault,
+        5,
         "new|",
     ),
 ];
@@ -146,15 +154,15 @@ fn lines(alloc: Global, text: &str) -> Result<Vec<u8>, AllocError> {
     Ok(bytes)
 }
 
-// How a run over these words and this input ends, and what it writes. A call of the source and one of the sink may
-// be made to fail.
+// The exit code of a run over these words and this input, and what it writes. A call of the source and one of the
+// sink may be made to fail.
 fn outcome(
     alloc: Global,
     words: &[&str],
     input: &[u8],
     failing_take: Option<u64>,
     failing_put: Option<u64>,
-) -> Result<(Status, Vec<u8>), AllocError> {
+) -> Result<(u8, Vec<u8>), AllocError> {
     let mut list = Words::new(alloc);
     for word in words {
         list.push(Bytes::from_slice(alloc, word.as_bytes())?)?;
@@ -168,7 +176,7 @@ fn outcome(
         sink.fail_at(call)?;
     }
     let status = run(alloc, &list, &mut source, &mut sink);
-    Ok((status, Vec::from_slice(alloc, sink.bytes())?))
+    Ok((status.code(), Vec::from_slice(alloc, sink.bytes())?))
 }
 
 #[test]
@@ -176,14 +184,14 @@ fn replies_to_scripts(rt: HostRuntime) -> Result<(), Fail> {
     let alloc = rt.alloc();
     for (script, want) in ANSWERED {
         let input = lines(alloc, script)?;
-        let (status, written) = outcome(alloc, &["script"], &input, None, None)?;
-        assert_eq!(rt; status, Status::Done, "{script}");
+        let (code, written) = outcome(alloc, &["script"], &input, None, None)?;
+        assert_eq!(rt; code, 0, "{script}");
         assert_eq!(rt; written, lines(alloc, want)?, "{script}");
     }
     for (script, want) in STOPPED {
         let input = lines(alloc, script)?;
-        let (status, written) = outcome(alloc, &["script"], &input, None, None)?;
-        assert_eq!(rt; status, Status::Script, "{script}");
+        let (code, written) = outcome(alloc, &["script"], &input, None, None)?;
+        assert_eq!(rt; code, 3, "{script}");
         assert_eq!(rt; written, lines(alloc, want)?, "{script}");
     }
     Ok(())
@@ -193,33 +201,129 @@ fn replies_to_scripts(rt: HostRuntime) -> Result<(), Fail> {
 fn other_words_and_faults(rt: HostRuntime) -> Result<(), Fail> {
     let alloc = rt.alloc();
     for words in OTHER_WORDS {
-        let (status, written) = outcome(alloc, words, b"new 0\n", None, None)?;
-        assert_eq!(rt; status, Status::Usage, "{words:?}");
+        let (code, written) = outcome(alloc, words, b"new 0\n", None, None)?;
+        assert_eq!(rt; code, 2, "{words:?}");
         assert_eq!(rt; written.as_slice(), b"stop 2\n".as_slice(), "{words:?}");
     }
-    for (failing_take, failing_put, words, script, want_status, want) in FAULTS {
+    for (failing_take, failing_put, words, script, want_code, want) in FAULTS {
         let input = lines(alloc, script)?;
-        let (status, written) = outcome(alloc, words, &input, failing_take, failing_put)?;
-        assert_eq!(rt; status, want_status, "{script}");
+        let (code, written) = outcome(alloc, words, &input, failing_take, failing_put)?;
+        assert_eq!(rt; code, want_code, "{script}");
         assert_eq!(rt; written, lines(alloc, want)?, "{script}");
     }
     Ok(())
 }
 
+// The first number with siblings, the parent of them, and the lines before and their replies.
+const LEVELS: [(u32, &str, &str, &str); 2] = [
+    (1, "01", "new 0|genesis 01 4|", "new|genesis|"),
+    (
+        2,
+        "ff",
+        "new 0|genesis 01 4|import ff 01|",
+        "new|genesis|import 1|",
+    ),
+];
+
 #[test]
 fn a_number_has_at_most_32_blocks(rt: HostRuntime) -> Result<(), Fail> {
     let alloc = rt.alloc();
-    let mut script = lines(alloc, "new 0|genesis 01 4|")?;
-    let mut want = lines(alloc, "new|genesis|")?;
-    for id in 2..34 {
-        let line = format!(in alloc; "import {id:02x} 01\n")?;
-        script.extend_from_slice(line.as_bytes())?;
-        want.extend_from_slice(b"import 1\n")?;
+    for (number, parent, before, replies) in LEVELS {
+        let mut script = lines(alloc, before)?;
+        let mut want = lines(alloc, replies)?;
+        for id in 2..34 {
+            let line = format!(in alloc; "import {id:02x} {parent}\n")?;
+            script.extend_from_slice(line.as_bytes())?;
+            let reply = format!(in alloc; "import {number}\n")?;
+            want.extend_from_slice(reply.as_bytes())?;
+        }
+        // both refusals come before the limit
+        let last = format!(in alloc; "import 22 99\nimport 05 {parent}\nimport 22 {parent}\n")?;
+        script.extend_from_slice(last.as_bytes())?;
+        let stop = format!(in alloc; "refused 4 UnknownParent\nrefused 3 AlreadyExists\nstop 3 line {}\n", number + 36)?;
+        want.extend_from_slice(stop.as_bytes())?;
+        let (code, written) = outcome(alloc, &["script"], &script, None, None)?;
+        assert_eq!(rt; code, 3, "{before}");
+        assert_eq!(rt; written, want, "{before}");
     }
-    script.extend_from_slice(b"import 22 99\nimport 22 01\n")?;
-    want.extend_from_slice(b"refused 4 UnknownParent\nstop 3 line 36\n")?;
-    let (status, written) = outcome(alloc, &["script"], &script, None, None)?;
-    assert_eq!(rt; status, Status::Script);
-    assert_eq!(rt; written, want);
+    Ok(())
+}
+
+// A source that gives at most so many bytes at a time, and counts its calls and those with less room than 65,536
+// bytes.
+#[derive(Drop)]
+struct Counted {
+    inner: MemSource,
+    most: usize,
+    calls: u64,
+    short: u64,
+}
+
+impl Source for Counted {
+    ghost use Rattle.std.specs.Prelude.{None};
+    ghost use Rattle.sdb_io.specs.Memory.{failed_takes};
+
+    ghost left = { λ _. None };
+
+    ghost fault_count = { λ s. failed_takes s.inner };
+
+    fn take(&mut self, into: &mut [u8]) -> Result<usize, SourceFault> {
+        self.calls = self.calls.saturating_add(1);
+        if into.len() != 65536 {
+            self.short = self.short.saturating_add(1);
+        }
+        let room = into.len().min(self.most);
+        self.inner.take(&mut into[..room])
+    }
+
+    fn faults(&self) -> u64 {
+        self.inner.faults()
+    }
+}
+
+// The script, how many bytes are given at a time, the exit code, and how many calls there are: none while a whole
+// line waits, and none after the end.
+const CALLS: [(&str, usize, u8, u64); 6] = [
+    ("", 8, 0, 1),
+    ("new 0|", 6, 0, 2),
+    ("new 0|", 2, 0, 4),
+    ("new 0", 2, 3, 4),
+    ("new 0|x|new 0|", 8, 3, 1),
+    ("new 0|new 0|x|", 6, 3, 2),
+];
+
+#[test]
+fn a_source_is_asked_only_where_no_line_waits(rt: HostRuntime) -> Result<(), Fail> {
+    let alloc = rt.alloc();
+    let mut words = Words::new(alloc);
+    words.push(Bytes::from_slice(alloc, b"script")?)?;
+    for (script, most, want, calls) in CALLS {
+        let input = lines(alloc, script)?;
+        let mut source = Counted {
+            inner: MemSource::new(alloc, &input)?,
+            most,
+            calls: 0,
+            short: 0,
+        };
+        let mut sink = MemSink::new(alloc);
+        assert_eq!(rt; run(alloc, &words, &mut source, &mut sink).code(), want, "{script}");
+        assert_eq!(rt; source.calls, calls, "{script}");
+        assert_eq!(rt; source.short, 0, "{script}");
+    }
+    Ok(())
+}
+
+#[test]
+fn exit_codes(rt: HostRuntime) -> Result<(), Fail> {
+    for (status, code) in [
+        (Status::Done, 0),
+        (Status::Usage, 2),
+        (Status::Script, 3),
+        (Status::SourceFault, 4),
+        (Status::SinkFault, 5),
+        (Status::NoMemory, 11),
+    ] {
+        assert_eq!(rt; status.code(), code);
+    }
     Ok(())
 }

@@ -1,0 +1,6 @@
+use Rattle.std.proofs.Common.{arith, refl}
+use Rattle.std.proofs.lemmas.Fmt.{decimal_digit}
+use Rattle.sdb_serve.proofs.laws.known_ends.Goals as goal
+
+pub returns-clause-bad_line : goal.returns-clause-bad_line
+returns-clause-bad_line c = (refl, rw (decimal_digit 7 (omega arith)) refl)
