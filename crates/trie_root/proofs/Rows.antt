@@ -9,7 +9,7 @@ use Rattle.std.proofs.lemmas.List.{append-nil}
 use Rattle.std.proofs.lemmas.List.Elements.{All-cons, All-nil, filter_map-append}
 use Rattle.std.proofs.lemmas.Bool.Decides.{eqb_tells}
 use Rattle.trie_model.specs.Trie.{Suffix, after_prefix, below}
-use Rattle.trie_root.specs.Suffixes.{BeginsWith, IsWithout}
+use Rattle.trie_root.specs.Suffixes.{HasFirst, IsWithout}
 use Rattle.trie_root.proofs.Ends.{AtMost, at_most_from_lt, below_all, first_of_and, second_of_and}
 use Rattle.trie_root.proofs.Prefixes.{without}
 
@@ -22,7 +22,7 @@ pub record Row (i : ℕ) (ss : List Suffix) : Type 0 where
   pub before : below (i ∷ []) front ≡ []
   pub inside : below (i ∷ []) middle ≡ map (without 1) middle
   pub after : below (i ∷ []) back ≡ []
-  pub begin : All (BeginsWith i) middle
+  pub begin : All (HasFirst i) middle
 
 pub unlike : (i n : ℕ) → (i ≡ n → ⊥) → eqb i n ≡ false
 unlike i n h = elim (eqb_tells i n) [ inl t ↦ absurd (h t.1) | inr f ↦ f.0 ]
@@ -64,7 +64,7 @@ begun i n ks v ss r same none = record {
   before = refl;
   inside = rw (same, r.inside);
   after = r.after;
-  begin = All-cons (BeginsWith i) (n ∷ ks, v) r.middle (ks, ap (λ (m : ℕ). m ∷ ks) (sym (alike i n same))) r.begin;
+  begin = All-cons (HasFirst i) (n ∷ ks, v) r.middle (ks, ap (λ (m : ℕ). m ∷ ks) (sym (alike i n same))) r.begin;
 }
 
 ended : (i n : ℕ) (ns v : List ℕ) (ss : List Suffix) → i < n → T (below_all (n ∷ ns) ss) → Row i ((n ∷ ns, v) ∷ ss)
@@ -76,7 +76,7 @@ ended i n ns v ss h b = let other : eqb i n ≡ false = unlike i n (λ s. omega 
   before = refl;
   inside = refl;
   after = rw (other, none_with_lower i n ns ss h b);
-  begin = All-nil (BeginsWith i);
+  begin = All-nil (HasFirst i);
 }
 
 -- a row at the very front, as what follows a suffix with the nibble has
@@ -90,7 +90,7 @@ here_next i ns (m ∷ ms) v ss (inl lower) b r = (ended i m ms v ss lower b, ref
 here_next i ns (m ∷ ms) v ss (inr same) b r = (begun i m ms v ss r.0 (eq-eqb i m same.0) r.1, refl)
 
 row_here : (i : ℕ) (ns : List ℕ) (ss : List Suffix) → T (below_all (i ∷ ns) ss) → T (is_sorted (slice_cmp nat_cmp) ss) → AtFront i ss
-row_here i ns [] b s = (record { front = []; middle = []; back = []; parts = refl; before = refl; inside = refl; after = refl; begin = All-nil (BeginsWith i) }, refl)
+row_here i ns [] b s = (record { front = []; middle = []; back = []; parts = refl; before = refl; inside = refl; after = refl; begin = All-nil (HasFirst i) }, refl)
 row_here i ns (t ∷ ts) b s =
     here_next i ns t.0 t.1 ts (at_most_from_lt (i ∷ ns) t.0 (first_of_and _ (below_all (i ∷ ns) ts) b))
     (first_of_and (below_all t.0 ts) (is_sorted (slice_cmp nat_cmp) ts) s)
@@ -111,7 +111,7 @@ row_next i (n ∷ ns) v ss b s r =
     ]
 
 pub row : (i : ℕ) (ss : List Suffix) → T (is_sorted (slice_cmp nat_cmp) ss) → Row i ss
-row i [] s = record { front = []; middle = []; back = []; parts = refl; before = refl; inside = refl; after = refl; begin = All-nil (BeginsWith i) }
+row i [] s = record { front = []; middle = []; back = []; parts = refl; before = refl; inside = refl; after = refl; begin = All-nil (HasFirst i) }
 row i (t ∷ ts) s =
     let others : T (is_sorted (slice_cmp nat_cmp) ts) = second_of_and (below_all t.0 ts) (is_sorted (slice_cmp nat_cmp) ts) s in
     row_next i t.0 t.1 ts (first_of_and (below_all t.0 ts) (is_sorted (slice_cmp nat_cmp) ts) s) others (row i ts others)

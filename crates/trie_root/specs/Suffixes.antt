@@ -17,9 +17,9 @@ pub record IsEntry (e : List ℕ × List ℕ) : Type 0 where
   pub value : All (λ b. b < 256) e.1
 
 -- a suffix that begins with the nibble
-abbrev pub BeginsWith : ℕ → Suffix → Type 0
-BeginsWith nibble s = (rest : List ℕ) × (s.0 ≡ nibble ∷ rest)
+abbrev pub HasFirst : ℕ → Suffix → Type 0
+HasFirst nibble s = (rest : List ℕ) × (s.0 ≡ nibble ∷ rest)
 
 -- a suffix that doesn't
 abbrev pub IsWithout : ℕ → Suffix → Type 0
-IsWithout nibble s = BeginsWith nibble s → ⊥
+IsWithout nibble s = HasFirst nibble s → ⊥

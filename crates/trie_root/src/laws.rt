@@ -4,7 +4,7 @@ ghost use Rattle.std.specs.Cmp.Lexicographic.{slice_cmp};
 ghost use Rattle.std.specs.FinMap.{is_sorted};
 ghost use Rattle.sdb_base.specs.Nibbles.{nibbles_of};
 ghost use Rattle.trie_model.specs.Trie.{Suffix, below, common, common_prefix, levels_of, node_over, value_here};
-ghost use Rattle.trie_root.specs.Suffixes.{BeginsWith, IsWithout};
+ghost use Rattle.trie_root.specs.Suffixes.{HasFirst, IsWithout};
 
 /// A node over some suffixes has at most as many levels as the longest has nibbles, and one: a larger bound gives the
 /// same node.
@@ -37,7 +37,7 @@ pub fn a_nibble_is_a_row()
     ensures { (nibble : ℕ) (suffixes : List Suffix) → IsTrue (is_sorted (slice_cmp nat_cmp) suffixes)
         → (front : List Suffix) × (row : List Suffix) × (back : List Suffix)
         × (suffixes ≡ front ++ (row ++ back))
-        × All (IsWithout nibble) front × All (BeginsWith nibble) row × All (IsWithout nibble) back
+        × All (IsWithout nibble) front × All (HasFirst nibble) row × All (IsWithout nibble) back
         × (below (nibble ∷ []) suffixes ≡ map (λ (s : Suffix). (drop 1 s.0, s.1)) row) }
 {}
 
