@@ -24,7 +24,14 @@ const REFUSED: [(&[u8], ScaleFault); 8] = [
 ];
 
 // A string, and its spelling.
-const STRINGS: [(&[u8], &[u8]); 2] = [(b"", b"\x00"), (b"dog", b"\x0cdog")];
+const STRINGS: [(&[u8], &[u8]); 3] = [
+    (b"", b"\x00"),
+    (b"dog", b"\x0cdog"),
+    (
+        b"0123456789abcdef0123456789abcdef0123456789abcdef0123456789abcdef",
+        b"\x01\x010123456789abcdef0123456789abcdef0123456789abcdef0123456789abcdef",
+    ),
+];
 
 #[test]
 fn numbers(rt: HostRuntime) -> Result<(), Fail> {

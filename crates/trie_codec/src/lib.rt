@@ -2,8 +2,9 @@
 //!
 //! `NodeRef` reads a node and owns nothing: what it gives of the node are slices of its input. It reads exactly the
 //! spellings of nodes, and else names the first fault from the left; it takes no memory. `encode` writes the one
-//! spelling of a node's parts. Nodes and spellings are defined in the crate of the trie's definitions, and the order of
-//! faults in `specs/Reading`. Which nodes make a trie is left to the layers above.
+//! spelling of a node's parts, `encode_parts` that of borrowed parts, and `encode_leaf` that of a leaf from a key's
+//! bytes, with no copy of its nibbles. Nodes and spellings are defined in the crate of the trie's definitions, and the
+//! order of faults in `specs/Reading`. Which nodes make a trie is left to the layers above.
 #![tactic(auto)]
 
 mod fault;

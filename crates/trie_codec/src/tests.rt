@@ -7,7 +7,7 @@ use std::alloc::Global;
 use std::test::*;
 
 // Bytes that are no node, and their first fault. Where two faults could be named, the second comes after it.
-const REFUSED: [(&[u8], CodecFault); 37] = [
+const REFUSED: [(&[u8], CodecFault); 38] = [
     (b"", CodecFault::Short),
     (b"\x42\xaa", CodecFault::Short),
     (b"\x7f", CodecFault::Short),
@@ -35,6 +35,7 @@ const REFUSED: [(&[u8], CodecFault); 37] = [
         CodecFault::BadHeader,
     ),
     (b"\x41\xfa\x04\x01", CodecFault::BadPadding),
+    (b"\x41\x10\x04\x01", CodecFault::BadPadding),
     // the partial key is cut off after its padding
     (b"\x43\xfa", CodecFault::BadPadding),
     (b"\x42\xaa\x01\x00", CodecFault::BadLength),
@@ -92,10 +93,18 @@ type Row = (
     &'static [u8],
 );
 
-const NODES: [Row; 8] = [
+const NODES: [Row; 10] = [
     (b"", None, &[], b"\x00"),
     (b"\x0a\x0a", Some(b""), &[], b"\x42\xaa\x00"),
     (b"\x0a\x0a", Some(b"\x01"), &[], b"\x42\xaa\x04\x01"),
+    (b"\x0f", Some(b""), &[], b"\x41\x0f\x00"),
+    // the last child of each byte of the bitmap
+    (
+        b"",
+        None,
+        &[(7, b"\x41\x0b\x04\x02"), (15, b"\x41\x0b\x04\x02")],
+        b"\x80\x80\x80\x10\x41\x0b\x04\x02\x10\x41\x0b\x04\x02",
+    ),
     // an odd partial key, whose zero half comes first
     (b"\x01\x02\x03", Some(b"\x04"), &[], b"\x43\x01\x23\x04\x04"),
     (

@@ -15,7 +15,7 @@ const KEYS: [(&[u8], &[u8]); 4] = [
 ];
 
 // Keys with their values, and the root of their state.
-const ROOTS: [(&[(&[u8], &[u8])], &[u8]); 6] = [
+const ROOTS: [(&[(&[u8], &[u8])], &[u8]); 7] = [
     (
         &[],
         b"\x03\x17\x0a\x2e\x75\x97\xb7\xb7\xe3\xd8\x4c\x05\x39\x1d\x13\x9a\x62\xb1\x57\xe7\x87\x86\xd8\xc0\x82\xf2\x9d\xcf\x4c\x11\x13\x14",
@@ -35,6 +35,16 @@ const ROOTS: [(&[(&[u8], &[u8])], &[u8]); 6] = [
     (
         &[(b"\xaa", b"\x01"), (b"\xab", b"\x02")],
         b"\x71\xdf\x5e\x47\x08\x8f\xe4\x69\xd8\xc9\x44\xca\xb4\xa7\xf2\xc6\x52\xee\x1c\xf5\x21\xec\xfc\x05\xda\x70\xbd\x6e\x4d\x09\xfd\x64",
+    ),
+    // no bytes as a key, and keys at the first, a middle and the last nibble
+    (
+        &[
+            (b"", b"\x09"),
+            (b"\x00", b""),
+            (b"\x80", b"\x01"),
+            (b"\xff", b"\x02"),
+        ],
+        b"\x26\xaa\x2e\x78\x6f\x85\x20\x21\x40\xd8\x12\x9f\x98\xf5\x19\x26\x4a\x9c\x42\x4a\xfd\xc5\xc0\xc8\x3f\xec\xa8\x17\x57\x91\xa4\x4b",
     ),
     (
         &[
