@@ -79,3 +79,7 @@ def nodes(state):
 
 def root(state):
     return blake2b_256(nodes(state)[-1])
+
+
+if __name__ == "__main__":
+    print(__doc__)

@@ -1,4 +1,4 @@
--- The chain of the newest block and of the blocks behind it, with their numbers and states.
+-- The chain of the newest block and of the blocks after it in the list, with their numbers and states.
 use Rattle.std.proofs.Common.{◌≡◌, ℕ, ◌+◌, ◌-◌, ◌<◌, Bool, true, false, cond, List, [], ◌∷◌, ◌++◌, length, Option, Some, None, refl, ap, ap₂, ◌∙◌, arith, append-nil, length-append}
 use Rattle.std.specs.List.{flat_map}
 use Rattle.std.specs.Option.{option_map}
@@ -20,7 +20,7 @@ pub option_map_some : {A B : Type 0} (f : A → B) (o : Option A) (y : B) → op
 option_map_some f None y e = absurd (none-some y e)
 option_map_some f (Some x) y e = (x, refl, same_Some (f x) y e)
 
--- the newest block's chain is its parent's with the block behind it, and no other block's chain has the newest one
+-- the newest block's chain is its parent's with the block at its end, and no other block's chain has the newest one
 pub chain-first : (b c : Block) (older : List Block) (id : BlockId) → same_id b.id id ≡ true
     → chain_of (b ∷ (c ∷ older)) id ≡ option_map (λ chain. chain ++ b ∷ []) (chain_of (c ∷ older) b.parent)
 unfolding chain_of

@@ -1,5 +1,5 @@
 -- Accepted blocks, their chains, numbers and states. Blocks are listed newest first: the last of the list is
--- genesis, and each other block has its parent behind it.
+-- genesis, and the parent of each other block comes later in the list.
 use Rattle.std.specs.Prelude.{ℕ, ◌-◌, ◌==◌, Bool, false, ◌≡◌, List, [], ◌∷◌, ◌++◌, length, count_by, if◌then◌else◌, Option, Some, None, IsSome}
 use Rattle.std.specs.List.{flat_map}
 use Rattle.std.specs.Option.{option_map, option_map_or}
@@ -19,7 +19,7 @@ chain_of (b ∷ (c ∷ older)) id =
     if same_id b.id id then option_map (λ chain. chain ++ b ∷ []) (chain_of (c ∷ older) b.parent)
     else chain_of (c ∷ older) id
 
--- the number of a block: how many blocks of its chain stand before it
+-- the number of a block: how many blocks of its chain come before it
 abbrev pub number_of : List Block → BlockId → Option ℕ
 number_of blocks id = option_map (λ chain. length chain - 1) (chain_of blocks id)
 
@@ -31,7 +31,7 @@ state_of blocks id = option_map (λ chain. apply no_keys (flat_map (λ (b : Bloc
 abbrev pub count_at : List Block → ℕ → ℕ
 count_at blocks n = count_by (λ (b : Block). option_map_or (λ k. k == n) (number_of blocks b.id) false) blocks
 
--- such lists alone come to be: ids differ, and each block but genesis has its parent behind it
+-- such lists alone come to be: ids differ, and the parent of each block but genesis comes later in the list
 abbrev pub AreBlocks : List Block → Type 0
 AreBlocks [] = Unit {0}
 AreBlocks (b ∷ []) = Unit {0}

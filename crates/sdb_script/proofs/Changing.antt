@@ -5,12 +5,12 @@ use Rattle.std.proofs.lemmas.Bool.{lt-leb, le-leb, cases_lt}
 use Rattle.std.proofs.lemmas.List.{append-nil}
 use Rattle.sdb_base.specs.declared.Change.{Change}
 use Rattle.sdb_script.specs.Grammar.{each_change, changes_of}
-use Rattle.sdb_script.specs.Reading.{Gives}
+use Rattle.sdb_script.specs.inner.Reading.{IsParsed}
 use Rattle.sdb_script.specs.Words.{change_of}
 use Rattle.sdb_script.specs.declared.line.LineFault.{LineFault}
 use Rattle.sdb_script.specs.declared.line.LineFault.TheVariants.{NotInGrammar, OutOfMemory}
 
--- changes that stand before those that are given
+-- changes in front of those that are given
 abbrev pub with_front : List Change → Option (List Change) → Option (List Change)
 with_front front given = option_map (λ cs. front ++ cs) given
 
@@ -49,7 +49,7 @@ all_changes front left words l le same =
     rw (le-leb (length words) 65536 le) (sym same ∙ ap (λ x. with_front front (each_change x)) l ∙ one)
 
 -- the fault of a word is the fault of all words
-pub word_fault : (e : LineFault) (front : List Change) (w : List ℕ) (ws left words : List (List ℕ)) → left ≡ w ∷ ws → Gives {X = Change} (Err e) (change_of w) → with_front front (each_change left) ≡ each_change words
-    → Gives {X = List Change} (Err e) (changes_of words)
+pub word_fault : (e : LineFault) (front : List Change) (w : List ℕ) (ws left words : List (List ℕ)) → left ≡ w ∷ ws → IsParsed {X = Change} (Err e) (change_of w) → with_front front (each_change left) ≡ each_change words
+    → IsParsed {X = List Change} (Err e) (changes_of words)
 word_fault OutOfMemory front w ws left words l h same = tt
 word_fault NotInGrammar front w ws left words l h same = bad_change front w ws left words l h same

@@ -6,7 +6,7 @@ use Rattle.std.proofs.lemmas.Bool.{lt-ltb, ltb-true, le-ltb, cases_lt, or_parts}
 use Rattle.std.proofs.lemmas.List.Elements.{All-cons, All-nil}
 use Rattle.std.proofs.lemmas.List.Splits.{slice_split_first, slice_split_none}
 use Rattle.sdb_script.specs.Grammar.{words_of}
-use Rattle.sdb_script.specs.Reading.{words_left}
+use Rattle.sdb_script.specs.inner.Reading.{words_left}
 
 longer : (k n : ℕ) → ltb k n ≡ ltb (1 + k) (suc n)
 longer k n = elim (cases_lt k n) [

@@ -7,7 +7,7 @@ use Rattle.std.proofs.lemmas.Bool.{cases_eq, eqb-false}
 use Rattle.std.proofs.lemmas.Option.{cond_some}
 use Rattle.std.proofs.lemmas.Fmt.{decimal_digit, decimal_nonempty, first_decimal, digits_decimal, digits_value-decimal, decimal-digits_value}
 use Rattle.std.proofs.lemmas.Str.Parse.{IsNumeralModel, numerals_by_fold, tells_all_ascii_digits}
-use Rattle.sdb_script.specs.Numbers.{digits_value, number_of}
+use Rattle.sdb_script.specs.Numbers.{digits_value, number_spelled}
 use Rattle.sdb_script.proofs.Digits.{plain}
 
 abbrev pub read_on : ℕ → List ℕ → ℕ
@@ -32,7 +32,7 @@ zero_led n lt z = elim (cases_eq n 0) [
   | inr ne ↦ absurd (omega (arith, first_decimal n (omega arith) lt))
 ]
 
-pub decimal_read : (n : ℕ) → n < 2 ^ 64 → number_of (decimal n) ≡ Some n
+pub decimal_read : (n : ℕ) → n < 2 ^ 64 → number_spelled (decimal n) ≡ Some n
 decimal_read n lt =
     plain (decimal n) (decimal_nonempty n lt) (zero_led n lt)
     ∙ value_is 0 (decimal n) ∙ rw (digits_decimal own n lt, digits_value-decimal own n lt) refl
@@ -46,15 +46,15 @@ longer : (c n : ℕ) (b : Bool) (w : List ℕ) → b ≡ (c == 48) → cond b No
 longer c n true w e h = absurd cc
 longer c n false w e h = (eqb-false c 48 (sym e), h)
 
-spells : (w : List ℕ) (n : ℕ) → number_of w ≡ Some n → Spells w n
-unfolding number_of
+spells : (w : List ℕ) (n : ℕ) → number_spelled w ≡ Some n → Spells w n
+unfolding number_spelled
 spells [] n h = absurd cc
 spells (c ∷ []) n h = record { nonempty = omega arith; no_zero = λ _. refl; value = h }
 spells (c ∷ (d ∷ cs)) n h =
     let l = longer c n (c == 48) (c ∷ (d ∷ cs)) refl h in
     record { nonempty = omega arith; no_zero = λ z. absurd (l.0 z); value = l.1 }
 
-pub read_only : (w : List ℕ) (n : ℕ) → n < 2 ^ 64 → number_of w ≡ Some n → w ≡ decimal n
+pub read_only : (w : List ℕ) (n : ℕ) → n < 2 ^ 64 → number_spelled w ≡ Some n → w ≡ decimal n
 read_only w n lt h =
     let s = spells w n h in
     let p = cond_some (all_ascii_digits w) (read_on 0 w) n (sym (value_is 0 w) ∙ s.value) in

@@ -4,7 +4,7 @@ use Rattle.std.specs.Prelude.{nat_le, if◌then◌else◌, option_and_then}
 use Rattle.std.proofs.lemmas.Bool.{lt-leb, le-leb, ne_eqb, eq-eqb, eqb-true, eqb-false, cases_lt}
 use Rattle.std.proofs.lemmas.List.{nil_from_length, length-drop}
 use Rattle.std.specs.Char.{is_ascii_digit}
-use Rattle.sdb_script.specs.Numbers.{digits_value, number_of, number_within}
+use Rattle.sdb_script.specs.Numbers.{digits_value, number_spelled, number_within}
 
 -- the number, if it is at most `high`
 abbrev pub capped : ℕ → Option ℕ → Option ℕ
@@ -36,7 +36,7 @@ digit_at n i w lt e = step_at n i w lt ∙ rw e refl
 pub other_at : (n i : ℕ) (w : List ℕ) → i < length w → is_ascii_digit (get_or w i 0) ≡ false → digits_value n (drop i w) ≡ None
 other_at n i w lt e = step_at n i w lt ∙ rw e refl
 
--- behind the last
+-- after the last
 pub past_end : (n i : ℕ) (w : List ℕ) → length w ≤ i → digits_value n (drop i w) ≡ Some n
 unfolding digits_value
 past_end n i w le = rw (nil_from_length (drop i w) (omega (arith, length-drop i w))) refl
@@ -56,20 +56,20 @@ window low high None = refl
 window low high (Some n) = window_at (λ m. if nat_le low m then Some m else None) (leb low n) (leb n high) n refl
 
 -- a word without a leading zero
-pub plain : (w : List ℕ) → 0 < length w → ((get_or w 0 0 ≡ 48) → length w ≤ 1) → number_of w ≡ digits_value 0 w
-unfolding number_of
+pub plain : (w : List ℕ) → 0 < length w → ((get_or w 0 0 ≡ 48) → length w ≤ 1) → number_spelled w ≡ digits_value 0 w
+unfolding number_spelled
 plain [] h z = absurd (omega arith)
 plain (c ∷ []) h z = refl
 plain (c ∷ (d ∷ cs)) h z = rw (ne_eqb c 48 (λ e. omega (arith, z e))) refl
 
-pub leading_zero : (w : List ℕ) → get_or w 0 0 ≡ 48 → 1 < length w → number_of w ≡ None
-unfolding number_of
+pub leading_zero : (w : List ℕ) → get_or w 0 0 ≡ 48 → 1 < length w → number_spelled w ≡ None
+unfolding number_spelled
 leading_zero [] z h = absurd (omega arith)
 leading_zero (c ∷ []) z h = absurd (omega arith)
 leading_zero (c ∷ (d ∷ cs)) z h = rw (eq-eqb c 48 z) refl
 
-pub no_digits : number_of [] ≡ None
-unfolding number_of
+pub no_digits : number_spelled [] ≡ None
+unfolding number_spelled
 no_digits = refl
 
 abbrev pub from_low : ℕ → Option ℕ → Option ℕ

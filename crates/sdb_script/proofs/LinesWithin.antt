@@ -1,22 +1,24 @@
 -- The line of a text keeps the limits.
 use Rattle.std.proofs.Common.{◌≡◌, ℕ, suc, ◌≤◌, Bool, true, false, ◌&&◌, cond, List, [], ◌∷◌, length, Some, None, Result, Ok, Err, refl, ap, subst, arith}
-use Rattle.std.specs.Prelude.{IfOk, nat_le, nat_lt, codes}
+use Rattle.std.specs.Prelude.{All, IfOk, nat_le, nat_lt, codes}
 use Rattle.std.specs.Option.{option_map}
 use Rattle.std.specs.List.{AllByRecursion, after_first, before_first, list_any}
 use Rattle.std.specs.Str.{bytes_eq}
 use Rattle.std.proofs.lemmas.Bool.{and_parts, leb-true}
+use Rattle.std.proofs.lemmas.List.Elements.{All-cons, All-nil}
 use Rattle.std.proofs.lemmas.Option.{none-some, same_Some}
 use Rattle.sdb_base.specs.declared.BlockId.{BlockId}
 use Rattle.sdb_base.specs.declared.Change.{Change}
+use Rattle.sdb_model.specs.Limits.{ChangeIsWithin}
 use Rattle.sdb_model.specs.declared.Task.TheVariants.{Import, Read, Root}
 use Rattle.sdb_script.specs.declared.line.Line.{Line}
 use Rattle.sdb_script.specs.declared.line.Line.TheVariants.{Blank, New, Genesis, Job}
 use Rattle.sdb_script.specs.declared.line.LineFault.{LineFault}
 use Rattle.sdb_script.specs.declared.line.LineFault.TheVariants.{NotInGrammar, OutOfMemory}
-use Rattle.sdb_script.specs.Reading.{Gives}
-use Rattle.sdb_script.specs.Grammar.{block_with, changes_of, each_change, genesis_of, import_of, is_blank, line_of, line_of_words, most_changes, most_in_line, new_of, no_parent, read_of, root_of, words_of}
+use Rattle.sdb_script.specs.inner.Reading.{IsParsed}
+use Rattle.sdb_script.specs.Grammar.{block_with, changes_of, each_change, genesis_line, import_line, is_blank, line_of, line_of_words, most_changes, most_in_line, new_line, no_parent, read_line, root_line, words_of}
 use Rattle.sdb_script.specs.LineTexts.{IsBlock, IsChange, IsId, IsWithin}
-use Rattle.sdb_script.specs.Numbers.{number_of, number_within}
+use Rattle.sdb_script.specs.Numbers.{number_spelled, number_within}
 use Rattle.sdb_script.specs.Words.{bytes_of, change_of, change_to, deletion_of, id_of, is_equals, is_exclamation, most_in_key, most_in_value, setting_of}
 use Rattle.sdb_script.proofs.Within.{bytes_within, chosen, id_within, map_some, passed, then_some, zeros_are_bytes}
 
@@ -26,17 +28,21 @@ set_within : (w : List ℕ) (c : Change) → setting_of w ≡ Some c → IsChang
 set_within w c h =
     let k = then_some _ (bytes_of most_in_key (before_first is_equals w)) c h in
     let v = map_some (λ value. change_to k.0 (Some value)) (bytes_of most_in_value (after_first is_equals w)) c k.2 in
+    let key = bytes_within most_in_key (before_first is_equals w) k.0 k.1 in
+    let value = bytes_within most_in_value (after_first is_equals w) v.0 v.1 in
     subst IsChange v.2 (record {
       trie = refl;
-      key = bytes_within most_in_key (before_first is_equals w) k.0 k.1;
-      value = bytes_within most_in_value (after_first is_equals w) v.0 v.1;
+      within = record { short_key = key.0; short_value = value.0 };
+      key = key.1;
+      value = value.1;
     })
 
 delete_within : (w : List ℕ) (c : Change) → deletion_of w ≡ Some c → IsChange c
 delete_within w c h =
     chosen IsChange _ (option_map (λ key. change_to key None) (bytes_of most_in_key (before_first is_exclamation w))) None c h
     (λ e. let k = map_some (λ key. change_to key None) (bytes_of most_in_key (before_first is_exclamation w)) c e in
-    subst IsChange k.2 (record { trie = refl; key = bytes_within most_in_key (before_first is_exclamation w) k.0 k.1; value = tt }))
+    let key = bytes_within most_in_key (before_first is_exclamation w) k.0 k.1 in
+    subst IsChange k.2 (record { trie = refl; within = record { short_key = key.0; short_value = tt }; key = key.1; value = tt }))
     (λ e. absurd (none-some c e))
 
 change_within : (w : List ℕ) (c : Change) → change_of w ≡ Some c → IsChange c
@@ -67,7 +73,7 @@ changes_within ws cs h = few_changes ws cs (nat_le (length ws) most_changes) ref
 
 number_within_is : (low high : ℕ) (w : List ℕ) (n : ℕ) → number_within low high w ≡ Some n → (low ≤ n) × (n ≤ high)
 number_within_is low high w n h =
-    let k = then_some (λ k. cond (nat_le low k && nat_le k high) (Some k) None) (number_of w) n h in
+    let k = then_some (λ k. cond (nat_le low k && nat_le k high) (Some k) None) (number_spelled w) n h in
     let p = passed (nat_le low k.0 && nat_le k.0 high) k.0 n k.2 in
     let both = and_parts (nat_le low k.0) (nat_le k.0 high) p.0 in
     let above = leb-true low k.0 both.0 in
@@ -77,20 +83,24 @@ number_within_is low high w n h =
 no_parent_is_id : IsId no_parent
 no_parent_is_id = (refl, zeros_are_bytes 32)
 
+each_is_within : (cs : List Change) → AllByRecursion IsChange cs → All ChangeIsWithin cs
+each_is_within [] h = All-nil ChangeIsWithin
+each_is_within (c ∷ cs) h = All-cons ChangeIsWithin c cs h.0.within (each_is_within cs h.1)
+
 -- a block of words that were read
 block_is : (id parent : BlockId) (cs : List Change) → IsId id → IsId parent → AllByRecursion IsChange cs × (length cs ≤ most_changes) → IsBlock (block_with id parent cs)
-block_is id parent cs i p h = record { id = i; parent = p; few = h.1; changes = h.0; version = refl }
+block_is id parent cs i p h = record { id = i; parent = p; within = record { few = h.1; each = each_is_within cs h.0 }; changes = h.0; version = refl }
 
-new_is : (ws : List (List ℕ)) (line : Line) → new_of ws ≡ Some line → IsWithin line
-unfolding new_of
+new_is : (ws : List (List ℕ)) (line : Line) → new_line ws ≡ Some line → IsWithin line
+unfolding new_line
 new_is [] line h = absurd (none-some line h)
 new_is (b ∷ []) line h =
     let n = map_some (λ base. New base) (number_within 0 16 b) line h in
     subst IsWithin n.2 (number_within_is 0 16 b n.0 n.1).1
 new_is (b ∷ (w ∷ ws)) line h = absurd (none-some line h)
 
-genesis_is : (ws : List (List ℕ)) (line : Line) → genesis_of ws ≡ Some line → IsWithin line
-unfolding genesis_of
+genesis_is : (ws : List (List ℕ)) (line : Line) → genesis_line ws ≡ Some line → IsWithin line
+unfolding genesis_line
 genesis_is [] line h = absurd (none-some line h)
 genesis_is (i ∷ []) line h = absurd (none-some line h)
 genesis_is (i ∷ (w ∷ cs)) line h =
@@ -100,8 +110,8 @@ genesis_is (i ∷ (w ∷ cs)) line h =
     let n = number_within_is 1 4096 w window.0 window.1 in
     subst IsWithin changes.2 (n.0, n.1, block_is id.0 no_parent changes.0 (id_within i id.0 id.1) no_parent_is_id (changes_within cs changes.0 changes.1), refl)
 
-import_is : (ws : List (List ℕ)) (line : Line) → import_of ws ≡ Some line → IsWithin line
-unfolding import_of
+import_is : (ws : List (List ℕ)) (line : Line) → import_line ws ≡ Some line → IsWithin line
+unfolding import_line
 import_is [] line h = absurd (none-some line h)
 import_is (i ∷ []) line h = absurd (none-some line h)
 import_is (i ∷ (p ∷ cs)) line h =
@@ -110,8 +120,8 @@ import_is (i ∷ (p ∷ cs)) line h =
     let changes = map_some (λ changes. Job (Import (block_with id.0 parent.0 changes))) (changes_of cs) line parent.2 in
     subst IsWithin changes.2 (block_is id.0 parent.0 changes.0 (id_within i id.0 id.1) (id_within p parent.0 parent.1) (changes_within cs changes.0 changes.1))
 
-read_is : (ws : List (List ℕ)) (line : Line) → read_of ws ≡ Some line → IsWithin line
-unfolding read_of
+read_is : (ws : List (List ℕ)) (line : Line) → read_line ws ≡ Some line → IsWithin line
+unfolding read_line
 read_is [] line h = absurd (none-some line h)
 read_is (i ∷ []) line h = absurd (none-some line h)
 read_is (i ∷ (k ∷ [])) line h =
@@ -120,8 +130,8 @@ read_is (i ∷ (k ∷ [])) line h =
     subst IsWithin key.2 (id_within i id.0 id.1, bytes_within most_in_key k key.0 key.1)
 read_is (i ∷ (k ∷ (w ∷ ws))) line h = absurd (none-some line h)
 
-root_is : (ws : List (List ℕ)) (line : Line) → root_of ws ≡ Some line → IsWithin line
-unfolding root_of
+root_is : (ws : List (List ℕ)) (line : Line) → root_line ws ≡ Some line → IsWithin line
+unfolding root_line
 root_is [] line h = absurd (none-some line h)
 root_is (i ∷ []) line h =
     let id = map_some (λ id. Job (Root id)) (id_of i) line h in
@@ -132,14 +142,14 @@ words_are : (ws : List (List ℕ)) (line : Line) → line_of_words ws ≡ Some l
 unfolding line_of_words
 words_are [] line h = absurd (none-some line h)
 words_are (w ∷ ws) line h =
-    chosen IsWithin (bytes_eq w (codes "new")) (new_of ws) _ line h (new_is ws line)
-    (λ h1. chosen IsWithin (bytes_eq w (codes "genesis")) (genesis_of ws) _ line h1 (genesis_is ws line)
-    (λ h2. chosen IsWithin (bytes_eq w (codes "import")) (import_of ws) _ line h2 (import_is ws line)
-    (λ h3. chosen IsWithin (bytes_eq w (codes "read")) (read_of ws) _ line h3 (read_is ws line)
-    (λ h4. chosen IsWithin (bytes_eq w (codes "root")) (root_of ws) None line h4 (root_is ws line)
+    chosen IsWithin (bytes_eq w (codes "new")) (new_line ws) _ line h (new_is ws line)
+    (λ h1. chosen IsWithin (bytes_eq w (codes "genesis")) (genesis_line ws) _ line h1 (genesis_is ws line)
+    (λ h2. chosen IsWithin (bytes_eq w (codes "import")) (import_line ws) _ line h2 (import_is ws line)
+    (λ h3. chosen IsWithin (bytes_eq w (codes "read")) (read_line ws) _ line h3 (read_is ws line)
+    (λ h4. chosen IsWithin (bytes_eq w (codes "root")) (root_line ws) None line h4 (root_is ws line)
     (λ h5. absurd (none-some line h5))))))
 
-pub gives_within : (ws : List (List ℕ)) (r : Result Line LineFault) → Gives r (line_of_words ws) → IfOk r IsWithin
+pub gives_within : (ws : List (List ℕ)) (r : Result Line LineFault) → IsParsed r (line_of_words ws) → IfOk r IsWithin
 gives_within ws (Ok line) h = words_are ws line h
 gives_within ws (Err NotInGrammar) h = tt
 gives_within ws (Err OutOfMemory) h = tt

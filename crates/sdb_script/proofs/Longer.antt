@@ -2,33 +2,33 @@
 use Rattle.std.proofs.Common.{◌≡◌, ℕ, ◌==◌, true, List, [], ◌∷◌, length, Option, Some, None, Bor, refl, arith}
 use Rattle.std.specs.Prelude.{is_some}
 use Rattle.std.proofs.lemmas.List.Splits.{length-slice_split}
-use Rattle.sdb_script.specs.Grammar.{new_of, read_of, root_of}
-use Rattle.sdb_script.specs.Reading.{words_left}
+use Rattle.sdb_script.specs.Grammar.{new_line, read_line, root_line}
+use Rattle.sdb_script.specs.inner.Reading.{words_left}
 
 some_left : (rest : Option (Bor (List ℕ))) → is_some rest ≡ true → length (words_left rest) ≡ 0 → ⊥
 some_left (Some r) e none = omega (arith, none, length-slice_split (λ c. c == 32) r.now)
 some_left None e none = absurd cc
 
-new_two : (b : List ℕ) (ws : List (List ℕ)) → (length ws ≡ 0 → ⊥) → new_of (b ∷ ws) ≡ None
-unfolding new_of
+new_two : (b : List ℕ) (ws : List (List ℕ)) → (length ws ≡ 0 → ⊥) → new_line (b ∷ ws) ≡ None
+unfolding new_line
 new_two b [] h = absurd (h refl)
 new_two b (w ∷ ws) h = refl
 
-pub new_longer : (b : List ℕ) (rest : Option (Bor (List ℕ))) (words : List (List ℕ)) → is_some rest ≡ true → words ≡ b ∷ words_left rest → new_of words ≡ None
+pub new_longer : (b : List ℕ) (rest : Option (Bor (List ℕ))) (words : List (List ℕ)) → is_some rest ≡ true → words ≡ b ∷ words_left rest → new_line words ≡ None
 new_longer b rest words e is = rw is (new_two b (words_left rest) (some_left rest e))
 
-read_three : (i k : List ℕ) (ws : List (List ℕ)) → (length ws ≡ 0 → ⊥) → read_of (i ∷ (k ∷ ws)) ≡ None
-unfolding read_of
+read_three : (i k : List ℕ) (ws : List (List ℕ)) → (length ws ≡ 0 → ⊥) → read_line (i ∷ (k ∷ ws)) ≡ None
+unfolding read_line
 read_three i k [] h = absurd (h refl)
 read_three i k (w ∷ ws) h = refl
 
-pub read_longer : (i k : List ℕ) (rest : Option (Bor (List ℕ))) (left words : List (List ℕ)) → is_some rest ≡ true → words ≡ i ∷ left → left ≡ k ∷ words_left rest → read_of words ≡ None
+pub read_longer : (i k : List ℕ) (rest : Option (Bor (List ℕ))) (left words : List (List ℕ)) → is_some rest ≡ true → words ≡ i ∷ left → left ≡ k ∷ words_left rest → read_line words ≡ None
 read_longer i k rest left words e is left_is = rw (is, left_is) (read_three i k (words_left rest) (some_left rest e))
 
-root_two : (i : List ℕ) (ws : List (List ℕ)) → (length ws ≡ 0 → ⊥) → root_of (i ∷ ws) ≡ None
-unfolding root_of
+root_two : (i : List ℕ) (ws : List (List ℕ)) → (length ws ≡ 0 → ⊥) → root_line (i ∷ ws) ≡ None
+unfolding root_line
 root_two i [] h = absurd (h refl)
 root_two i (w ∷ ws) h = refl
 
-pub root_longer : (i : List ℕ) (rest : Option (Bor (List ℕ))) (words : List (List ℕ)) → is_some rest ≡ true → words ≡ i ∷ words_left rest → root_of words ≡ None
+pub root_longer : (i : List ℕ) (rest : Option (Bor (List ℕ))) (words : List (List ℕ)) → is_some rest ≡ true → words ≡ i ∷ words_left rest → root_line words ≡ None
 root_longer i rest words e is = rw is (root_two i (words_left rest) (some_left rest e))

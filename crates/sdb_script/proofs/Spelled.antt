@@ -11,7 +11,7 @@ use Rattle.hex.specs.Hex.{decode_of, decode_sized}
 use Rattle.hex.proofs.HexLemmas.{decode_of-ok, decode_of-odd, decode_sized-odd, decode_sized-twice}
 use Rattle.sdb_base.specs.declared.BlockId.{BlockId}
 use Rattle.hex.specs.declared.error.FromHexError.TheVariants as hex_errors
-use Rattle.sdb_script.specs.Reading.{Gives, fault_of}
+use Rattle.sdb_script.specs.inner.Reading.{IsParsed, fault_of}
 use Rattle.sdb_script.specs.Words.{id_of, bytes_of, padded_id}
 use borrow.Rule.Slice.PartMut.{put_mid, post_of}
 
@@ -125,7 +125,7 @@ pub digits_only : (most : ℕ) (w d : List ℕ) → d ≡ 45 ∷ [] → bytes_eq
 unfolding bytes_of
 digits_only most w d e h = let t : bytes_eq w (45 ∷ []) ≡ false = rw (← e) h in rw t refl
 
-pub bad_word : (most : ℕ) (w : List ℕ) (e : FromHexError) → (e ≡ hex_errors.OutOfMemory) ⊎ (decode_of w ≡ Err e) → Gives {X = List ℕ} (Err (fault_of e)) (sized most (result_ok (decode_of w)))
+pub bad_word : (most : ℕ) (w : List ℕ) (e : FromHexError) → (e ≡ hex_errors.OutOfMemory) ⊎ (decode_of w ≡ Err e) → IsParsed {X = List ℕ} (Err (fault_of e)) (sized most (result_ok (decode_of w)))
 bad_word most w hex_errors.OutOfMemory o = tt
 bad_word most w (hex_errors.InvalidHexCharacter c i) o = elim o [ inl e ↦ absurd cc | inr e ↦ bad_digits most w (hex_errors.InvalidHexCharacter c i) e ]
 bad_word most w hex_errors.OddLength o = elim o [ inl e ↦ absurd cc | inr e ↦ bad_digits most w hex_errors.OddLength e ]

@@ -11,7 +11,7 @@ use Rattle.hex.specs.declared.error.FromHexError.{FromHexError}
 use Rattle.hex.specs.Hex.{IsBytes, decode_of}
 use Rattle.hex.proofs.HexLemmas.{decode_of-ok}
 use Rattle.sdb_base.specs.declared.BlockId.{BlockId}
-use Rattle.sdb_script.specs.LineTexts.{IsId, IsShort}
+use Rattle.sdb_script.specs.LineTexts.{IsId, HasAtMost}
 use Rattle.sdb_script.specs.Words.{bytes_of, id_of, padded_id}
 
 -- ---- steps that may give nothing
@@ -44,7 +44,7 @@ decoded_bytes w (Ok given) bytes d h = subst IsBytes (same_Some given bytes h) (
 -- what is decoded, where it is long enough and not too long
 sized_bytes : {X : Type 0} (made : List ℕ → X) (most : ℕ) (w : List ℕ) (x : X)
     → option_and_then (λ bytes. cond (nat_le 1 (length bytes) && nat_le (length bytes) most) (Some (made bytes)) None) (result_ok (decode_of w)) ≡ Some x
-    → (bytes : List ℕ) × IsShort most bytes × (made bytes ≡ x)
+    → (bytes : List ℕ) × HasAtMost most bytes × (made bytes ≡ x)
 sized_bytes made most w x h =
     let given = then_some (λ bytes. cond (nat_le 1 (length bytes) && nat_le (length bytes) most) (Some (made bytes)) None) (result_ok (decode_of w)) x h in
     let bytes = given.0 in
@@ -52,16 +52,16 @@ sized_bytes made most w x h =
     let few = (and_parts (nat_le 1 (length bytes)) (nat_le (length bytes) most) let_through.0).1 in
     (bytes, (leb-true (length bytes) most few, decoded_bytes w (decode_of w) bytes refl given.1), let_through.1)
 
-no_bytes : (most : ℕ) → IsShort most []
+no_bytes : (most : ℕ) → HasAtMost most []
 no_bytes most = (omega arith, λ i. omega arith)
 
-pub bytes_within : (most : ℕ) (w bytes : List ℕ) → bytes_of most w ≡ Some bytes → IsShort most bytes
+pub bytes_within : (most : ℕ) (w bytes : List ℕ) → bytes_of most w ≡ Some bytes → HasAtMost most bytes
 unfolding bytes_of
 bytes_within most w bytes h =
-    chosen (IsShort most) (bytes_eq w (45 ∷ [])) (Some [])
+    chosen (HasAtMost most) (bytes_eq w (45 ∷ [])) (Some [])
     (option_and_then (λ b. cond (nat_le 1 (length b) && nat_le (length b) most) (Some b) None) (result_ok (decode_of w))) bytes h
-    (λ e. subst (IsShort most) (same_Some [] bytes e) (no_bytes most))
-    (λ e. let s = sized_bytes (λ b. b) most w bytes e in subst (IsShort most) s.2 s.1)
+    (λ e. subst (HasAtMost most) (same_Some [] bytes e) (no_bytes most))
+    (λ e. let s = sized_bytes (λ b. b) most w bytes e in subst (HasAtMost most) s.2 s.1)
 
 zero_or_byte : (n : ℕ) (bytes : List ℕ) → IsBytes bytes → (i : ℕ) → (i < n) ⊎ (n ≤ i) → get_or (replicate n 0 ++ bytes) i 0 < 256
 zero_or_byte n bytes h i (inl lt) =
@@ -80,7 +80,7 @@ zeros_are_bytes n i = get_or-zeros n i
     get_or-zeros (suc n) zero = omega arith
     get_or-zeros (suc n) (suc i) = get_or-zeros n i
 
-padded : (bytes : List ℕ) → IsShort 32 bytes → IsId (padded_id bytes)
+padded : (bytes : List ℕ) → HasAtMost 32 bytes → IsId (padded_id bytes)
 padded bytes h =
     (omega (arith, length-append (replicate {A = ℕ} (32 - length bytes) 0) bytes, length-replicate {A = ℕ} (32 - length bytes) 0, h.0), zeros_before (32 - length bytes) bytes h.1)
 

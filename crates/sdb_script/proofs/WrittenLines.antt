@@ -13,8 +13,8 @@ use Rattle.sdb_base.specs.declared.Change.{Change}
 use Rattle.sdb_model.specs.declared.Task.TheVariants.{Import, Read, Root}
 use Rattle.sdb_script.specs.declared.line.Line.{Line}
 use Rattle.sdb_script.specs.declared.line.Line.TheVariants.{Blank, New, Genesis, Job}
-use Rattle.sdb_script.specs.Grammar.{most_in_line, words_of, is_blank, each_change, changes_of, block_with, no_parent, new_of, genesis_of, import_of, read_of, root_of, line_of_words, line_of}
-use Rattle.sdb_script.specs.LineTexts.{id_text, change_text, line_text, IsChange, IsBlock, IsId, IsShort, IsWithin}
+use Rattle.sdb_script.specs.Grammar.{most_in_line, words_of, is_blank, each_change, changes_of, block_with, no_parent, new_line, genesis_line, import_line, read_line, root_line, line_of_words, line_of}
+use Rattle.sdb_script.specs.LineTexts.{id_text, change_text, line_text, IsChange, IsBlock, IsId, HasAtMost, IsWithin}
 use Rattle.sdb_script.specs.Texts.{bytes_text}
 use Rattle.sdb_script.specs.Words.{most_in_key}
 use Rattle.sdb_script.proofs.WrittenWords.{Free, id_free, bytes_free, decimal_free, change_free, number_back, id_back, bytes_back, change_back}
@@ -53,30 +53,30 @@ line_is : (text : List ℕ) (words : List (List ℕ)) (line : Option Line) → l
 unfolding line_of
 line_is text words line le b w l = rw (le-ltb most_in_line (length text) le, b, w) l
 
-new_back : (base : ℕ) → base ≤ 16 → new_of (decimal base ∷ []) ≡ Some (New base)
-unfolding new_of
+new_back : (base : ℕ) → base ≤ 16 → new_line (decimal base ∷ []) ≡ Some (New base)
+unfolding new_line
 new_back base h = rw (number_back 0 16 base (omega arith) (omega arith) h) refl
 
 genesis_back : (window : ℕ) (block : Block) → 1 ≤ window → window ≤ 4096 → IsBlock block → block.parent ≡ no_parent
-    → genesis_of (id_text block.id ∷ decimal window ∷ map change_text block.changes) ≡ Some (Genesis window block)
-unfolding genesis_of
+    → genesis_line (id_text block.id ∷ decimal window ∷ map change_text block.changes) ≡ Some (Genesis window block)
+unfolding genesis_line
 genesis_back window block low high h parent =
-    rw (id_back block.id h.id, number_back 1 4096 window (omega arith) low high, changes_back block.changes h.few h.changes, ← parent) (ap (λ (b : Block). Some (Genesis window b)) (block_is block h.version))
+    rw (id_back block.id h.id, number_back 1 4096 window (omega arith) low high, changes_back block.changes h.within.few h.changes, ← parent) (ap (λ (b : Block). Some (Genesis window b)) (block_is block h.version))
 
-import_back : (block : Block) → IsBlock block → import_of (id_text block.id ∷ id_text block.parent ∷ map change_text block.changes) ≡ Some (Job (Import block))
-unfolding import_of
+import_back : (block : Block) → IsBlock block → import_line (id_text block.id ∷ id_text block.parent ∷ map change_text block.changes) ≡ Some (Job (Import block))
+unfolding import_line
 import_back block h =
-    rw (id_back block.id h.id, id_back block.parent h.parent, changes_back block.changes h.few h.changes) (ap (λ (b : Block). Some (Job (Import b))) (block_is block h.version))
+    rw (id_back block.id h.id, id_back block.parent h.parent, changes_back block.changes h.within.few h.changes) (ap (λ (b : Block). Some (Job (Import b))) (block_is block h.version))
 
-read_back : (id : BlockId) (key : List ℕ) → IsId id → IsShort most_in_key key → read_of (id_text id ∷ bytes_text key ∷ []) ≡ Some (Job (Read id key))
-unfolding read_of
+read_back : (id : BlockId) (key : List ℕ) → IsId id → HasAtMost most_in_key key → read_line (id_text id ∷ bytes_text key ∷ []) ≡ Some (Job (Read id key))
+unfolding read_line
 read_back id key i k = rw (id_back id i, bytes_back most_in_key key k) refl
 
-root_back : (id : BlockId) → IsId id → root_of (id_text id ∷ []) ≡ Some (Job (Root id))
-unfolding root_of
+root_back : (id : BlockId) → IsId id → root_line (id_text id ∷ []) ≡ Some (Job (Root id))
+unfolding root_line
 root_back id i = rw (id_back id i) refl
 
--- whether a byte stands nowhere in a text
+-- whether a byte occurs nowhere in a text
 abbrev is_free : List ℕ → Bool
 is_free [] = true
 is_free (c ∷ cs) = not (c == 32) && is_free cs

@@ -14,13 +14,13 @@ use Rattle.hex.specs.Hex.{encode_with, encode_lower, is_hex_digit, IsBytes}
 use Rattle.hex.proofs.HexLemmas.{decode_of-ok, decode_of-encode_lower}
 use Rattle.sdb_base.specs.declared.BlockId.{BlockId}
 use Rattle.sdb_base.specs.declared.Change.{Change}
-use Rattle.sdb_script.specs.LineTexts.{id_text, value_text, change_text, IsId, IsShort, IsChange}
+use Rattle.sdb_script.specs.LineTexts.{id_text, value_text, change_text, IsId, HasAtMost, IsChange}
 use Rattle.sdb_script.specs.Numbers.{number_within}
 use Rattle.sdb_script.specs.Texts.{bytes_text}
 use Rattle.sdb_script.specs.Words.{id_of, bytes_of, change_of, change_to, most_in_key, most_in_value, is_equals, is_exclamation}
 use Rattle.sdb_script.proofs.Decimals.{own, decimal_read}
 
--- the byte stands nowhere in the text
+-- the byte occurs nowhere in the text
 abbrev pub Free : ℕ → List ℕ → Type 0
 Free x text = All (λ c. (c == x) ≡ false) text
 
@@ -73,7 +73,7 @@ no_dash : (b : ℕ) (bs : List ℕ) → bytes_eq (encode_lower (b ∷ bs)) (45 �
 unfolding encode_with
 no_dash b bs = and_right _ false refl
 
-pub bytes_back : (most : ℕ) (bytes : List ℕ) → IsShort most bytes → bytes_of most (bytes_text bytes) ≡ Some bytes
+pub bytes_back : (most : ℕ) (bytes : List ℕ) → HasAtMost most bytes → bytes_of most (bytes_text bytes) ≡ Some bytes
 unfolding bytes_of
 bytes_back most [] h = refl
 bytes_back most (b ∷ bs) h =
@@ -82,7 +82,7 @@ bytes_back most (b ∷ bs) h =
 
 -- ---- changes
 
--- a text with one byte that passes behind others that don't
+-- a text with one byte that passes after others that don't
 record IsCut (p : ℕ → Bool) (text front back : List ℕ) : Type 0 where
   any : list_any p text ≡ true
   before : before_first p text ≡ front
@@ -107,34 +107,42 @@ is_cut p front y back f h =
 with_trie : (change : Change) → change.trie ≡ [] → change_to change.key change.value ≡ change
 with_trie change h = ap (λ (t : List ℕ). let made : Change = record { trie = t; key = change.key; value = change.value } in made) (sym h)
 
-set_back : (key value : List ℕ) → IsShort most_in_key key → IsShort most_in_value value → change_of (bytes_text key ++ (61 ∷ bytes_text value)) ≡ Some (change_to key (Some value))
+set_back : (key value : List ℕ) → HasAtMost most_in_key key → HasAtMost most_in_value value → change_of (bytes_text key ++ (61 ∷ bytes_text value)) ≡ Some (change_to key (Some value))
 unfolding change_of
 set_back key value k v =
     let cut = is_cut is_equals (bytes_text key) 61 (bytes_text value) (bytes_free 61 refl refl key k.1) refl in
     rw (cut.any, cut.before, cut.after, bytes_back most_in_key key k, bytes_back most_in_value value v) refl
 
-delete_back : (key : List ℕ) → IsShort most_in_key key → change_of (bytes_text key ++ (33 ∷ [])) ≡ Some (change_to key None)
+delete_back : (key : List ℕ) → HasAtMost most_in_key key → change_of (bytes_text key ++ (33 ∷ [])) ≡ Some (change_to key None)
 unfolding change_of
 delete_back key k =
     let cut = is_cut is_exclamation (bytes_text key) 33 [] (bytes_free 33 refl refl key k.1) refl in
     let unset : list_any is_equals (bytes_text key ++ (33 ∷ [])) ≡ false = list_any-append is_equals (bytes_text key) (33 ∷ []) ∙ rw (list_any_none is_equals (bytes_text key) (bytes_free 61 refl refl key k.1)) refl in
     rw (unset, cut.any, cut.after, cut.before, bytes_back most_in_key key k) refl
 
-value_back : (key : List ℕ) (value : Option (List ℕ)) → IsShort most_in_key key → IfSome value (IsShort most_in_value) → change_of (bytes_text key ++ value_text value) ≡ Some (change_to key value)
+value_back : (key : List ℕ) (value : Option (List ℕ)) → HasAtMost most_in_key key → IfSome value (HasAtMost most_in_value) → change_of (bytes_text key ++ value_text value) ≡ Some (change_to key value)
 value_back key (Some value) k v = set_back key value k v
 value_back key None k v = delete_back key k
 
+short_bytes : (value : Option (List ℕ)) → IfSome value (λ v. length v ≤ most_in_value) → IfSome value IsBytes → IfSome value (HasAtMost most_in_value)
+short_bytes (Some value) short bytes = (short, bytes)
+short_bytes None short bytes = tt
+
 pub change_back : (change : Change) → IsChange change → change_of (change_text change) ≡ Some change
-change_back change h = value_back change.key change.value h.key h.value ∙ ap (λ (c : Change). Some c) (with_trie change h.trie)
+change_back change h =
+    let value = short_bytes change.value h.within.short_value h.value in
+    value_back change.key change.value (h.within.short_key, h.key) value ∙ ap (λ (c : Change). Some c) (with_trie change h.trie)
 
 append_free : (x : ℕ) (front back : List ℕ) → Free x front → Free x back → Free x (front ++ back)
 append_free x [] back f b = b
 append_free x (c ∷ front) back f b =
     All-cons (λ d. (d == x) ≡ false) c (front ++ back) (All-head (λ d. (d == x) ≡ false) c front f) (append_free x front back (All-tail (λ d. (d == x) ≡ false) c front f) b)
 
-value_free : (value : Option (List ℕ)) → IfSome value (IsShort most_in_value) → Free 32 (value_text value)
+value_free : (value : Option (List ℕ)) → IfSome value (HasAtMost most_in_value) → Free 32 (value_text value)
 value_free (Some value) h = All-cons (λ d. (d == 32) ≡ false) 61 (bytes_text value) refl (bytes_free 32 refl refl value h.1)
 value_free None h = All-cons (λ d. (d == 32) ≡ false) 33 [] refl (All-nil (λ d. (d == 32) ≡ false))
 
 pub change_free : (change : Change) → IsChange change → Free 32 (change_text change)
-change_free change h = append_free 32 (bytes_text change.key) (value_text change.value) (bytes_free 32 refl refl change.key h.key.1) (value_free change.value h.value)
+change_free change h =
+    let value = short_bytes change.value h.within.short_value h.value in
+    append_free 32 (bytes_text change.key) (value_text change.value) (bytes_free 32 refl refl change.key h.key) (value_free change.value value)

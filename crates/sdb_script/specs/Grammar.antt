@@ -7,18 +7,16 @@ use Rattle.std.specs.Str.{bytes_eq}
 use Rattle.sdb_base.specs.declared.Block.{Block}
 use Rattle.sdb_base.specs.declared.BlockId.{BlockId}
 use Rattle.sdb_base.specs.declared.Change.{Change}
+pub use Rattle.sdb_model.specs.Limits.{most_changes}
 use Rattle.sdb_model.specs.declared.Task.TheVariants.{Import, Read, Root}
 use Rattle.sdb_script.specs.declared.line.Line.{Line}
 use Rattle.sdb_script.specs.declared.line.Line.TheVariants.{Blank, New, Genesis, Job}
 use Rattle.sdb_script.specs.Numbers.{number_within}
 use Rattle.sdb_script.specs.Words.{bytes_of, change_of, id_of, most_in_key}
 
--- at most these many bytes in a line, and changes in a block
+-- at most so many bytes in a line
 abbrev pub most_in_line : ℕ
 most_in_line = 16777216
-
-abbrev pub most_changes : ℕ
-most_changes = 65536
 
 -- the words of a line
 abbrev pub words_of : List ℕ → List (List ℕ)
@@ -45,45 +43,45 @@ block_with id parent changes = record { id = id; parent = parent; changes = chan
 abbrev pub no_parent : BlockId
 no_parent = record { 0 = replicate 32 0 }
 
--- behind `new`: B, the base
-unfoldable pub new_of : List (List ℕ) → Option Line
-new_of (b ∷ []) = option_map (λ base. New base) (number_within 0 16 b)
-new_of _ = None
+-- the words after `new`: B, the base
+unfoldable pub new_line : List (List ℕ) → Option Line
+new_line (b ∷ []) = option_map (λ base. New base) (number_within 0 16 b)
+new_line _ = None
 
--- behind `genesis`: ID W CHANGE ..
-unfoldable pub genesis_of : List (List ℕ) → Option Line
-genesis_of (i ∷ (w ∷ cs)) =
+-- the words after `genesis`: ID W CHANGE ..
+unfoldable pub genesis_line : List (List ℕ) → Option Line
+genesis_line (i ∷ (w ∷ cs)) =
     option_and_then (λ id. option_and_then (λ window. option_map (λ changes. Genesis window (block_with id no_parent changes))
     (changes_of cs)) (number_within 1 4096 w)) (id_of i)
-genesis_of _ = None
+genesis_line _ = None
 
--- behind `import`: ID PARENT CHANGE ..
-unfoldable pub import_of : List (List ℕ) → Option Line
-import_of (i ∷ (p ∷ cs)) =
+-- the words after `import`: ID PARENT CHANGE ..
+unfoldable pub import_line : List (List ℕ) → Option Line
+import_line (i ∷ (p ∷ cs)) =
     option_and_then (λ id. option_and_then (λ parent. option_map (λ changes. Job (Import (block_with id parent changes)))
     (changes_of cs)) (id_of p)) (id_of i)
-import_of _ = None
+import_line _ = None
 
--- behind `read`: ID KEY
-unfoldable pub read_of : List (List ℕ) → Option Line
-read_of (i ∷ (k ∷ [])) =
+-- the words after `read`: ID KEY
+unfoldable pub read_line : List (List ℕ) → Option Line
+read_line (i ∷ (k ∷ [])) =
     option_and_then (λ id. option_map (λ key. Job (Read id key)) (bytes_of most_in_key k)) (id_of i)
-read_of _ = None
+read_line _ = None
 
--- behind `root`: ID
-unfoldable pub root_of : List (List ℕ) → Option Line
-root_of (i ∷ []) = option_map (λ id. Job (Root id)) (id_of i)
-root_of _ = None
+-- the words after `root`: ID
+unfoldable pub root_line : List (List ℕ) → Option Line
+root_line (i ∷ []) = option_map (λ id. Job (Root id)) (id_of i)
+root_line _ = None
 
 -- by the first word
 unfoldable pub line_of_words : List (List ℕ) → Option Line
 line_of_words [] = None
 line_of_words (w ∷ ws) =
-    if bytes_eq w (codes "new") then new_of ws
-    else if bytes_eq w (codes "genesis") then genesis_of ws
-    else if bytes_eq w (codes "import") then import_of ws
-    else if bytes_eq w (codes "read") then read_of ws
-    else if bytes_eq w (codes "root") then root_of ws
+    if bytes_eq w (codes "new") then new_line ws
+    else if bytes_eq w (codes "genesis") then genesis_line ws
+    else if bytes_eq w (codes "import") then import_line ws
+    else if bytes_eq w (codes "read") then read_line ws
+    else if bytes_eq w (codes "root") then root_line ws
     else None
 
 -- the line of a text; none where it is none

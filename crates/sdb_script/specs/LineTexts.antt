@@ -6,12 +6,12 @@ use Rattle.hex.specs.Hex.{encode_lower, IsBytes}
 use Rattle.sdb_base.specs.declared.Block.{Block}
 use Rattle.sdb_base.specs.declared.BlockId.{BlockId}
 use Rattle.sdb_base.specs.declared.Change.{Change}
+use Rattle.sdb_model.specs.Limits.{BlockIsWithin, ChangeIsWithin, bytes_in_id, most_in_key}
 use Rattle.sdb_model.specs.declared.Task.TheVariants.{Import, Read, Root}
 use Rattle.sdb_script.specs.declared.line.Line.{Line}
 use Rattle.sdb_script.specs.declared.line.Line.TheVariants.{Blank, New, Genesis, Job}
-use Rattle.sdb_script.specs.Grammar.{most_changes, no_parent}
+use Rattle.sdb_script.specs.Grammar.{no_parent}
 use Rattle.sdb_script.specs.Texts.{bytes_text}
-use Rattle.sdb_script.specs.Words.{most_in_key, most_in_value}
 
 -- 64 digits
 abbrev pub id_text : BlockId → List ℕ
@@ -38,22 +38,23 @@ abbrev pub line_text : Line → List ℕ
 line_text line = join_with_byte 32 (line_words line)
 
 abbrev pub IsId : BlockId → Type 0
-IsId id = (length id.0 ≡ 32) × IsBytes id.0
+IsId id = (length id.0 ≡ bytes_in_id) × IsBytes id.0
 
-abbrev pub IsShort : ℕ → List ℕ → Type 0
-IsShort most bytes = (length bytes ≤ most) × IsBytes bytes
+abbrev pub HasAtMost : ℕ → List ℕ → Type 0
+HasAtMost most bytes = (length bytes ≤ most) × IsBytes bytes
 
--- a change of the main trie, its key and value not too long
+-- a change of the main trie within the limits, of a key and a value in bytes
 pub record IsChange (change : Change) : Type 0 where
   pub trie : change.trie ≡ []
-  pub key : IsShort most_in_key change.key
-  pub value : IfSome change.value (IsShort most_in_value)
+  pub within : ChangeIsWithin change
+  pub key : IsBytes change.key
+  pub value : IfSome change.value IsBytes
 
--- a block with such changes, not too many
+-- a block within the limits, with such changes
 pub record IsBlock (block : Block) : Type 0 where
   pub id : IsId block.id
   pub parent : IsId block.parent
-  pub few : length block.changes ≤ most_changes
+  pub within : BlockIsWithin block
   pub changes : AllByRecursion IsChange block.changes
   pub version : block.version ≡ 0
 
@@ -63,5 +64,5 @@ IsWithin Blank = Unit {0}
 IsWithin (New base) = base ≤ 16
 IsWithin (Genesis window block) = (1 ≤ window) × (window ≤ 4096) × IsBlock block × (block.parent ≡ no_parent)
 IsWithin (Job (Import block)) = IsBlock block
-IsWithin (Job (Read id key)) = IsId id × IsShort most_in_key key
+IsWithin (Job (Read id key)) = IsId id × HasAtMost most_in_key key
 IsWithin (Job (Root id)) = IsId id

@@ -1,5 +1,5 @@
 ghost use Rattle.sdb_script.specs.Grammar.{changes_of};
-ghost use Rattle.sdb_script.specs.Reading.{Gives, words_left};
+ghost use Rattle.sdb_script.specs.inner.Reading.{IsParsed, words_left};
 
 use crate::cursor::next_word;
 use crate::line::LineFault;
@@ -11,7 +11,7 @@ const MOST_CHANGES: usize = 65536;
 
 // The changes that the words left spell, one a word.
 pub(crate) fn parse_changes(alloc: Global, words: Option<&[u8]>) -> Result<Changes, LineFault>
-    ensures { Gives result (changes_of (words_left words.entry)) }
+    ensures { IsParsed result (changes_of (words_left words.entry)) }
 {
     let mut changes = Changes::new(alloc);
     let mut rest = words;

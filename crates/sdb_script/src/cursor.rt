@@ -1,7 +1,7 @@
 ghost use Rattle.std.specs.Prelude.{◌≡◌, ◌==◌, ◌<◌, [], ◌∷◌, length, is_some, IfSome, IfNone, MatchOption};
 ghost use Rattle.std.specs.List.{before_first, after_first, list_any, position};
 ghost use Rattle.sdb_script.specs.Grammar.{words_of};
-ghost use Rattle.sdb_script.specs.Reading.{words_left};
+ghost use Rattle.sdb_script.specs.inner.Reading.{words_left};
 
 // The first place of a byte.
 fn find(text: &[u8], at: u8) -> Option<usize>
@@ -10,7 +10,7 @@ fn find(text: &[u8], at: u8) -> Option<usize>
     text.iter().position(|c| *c == at)
 }
 
-// What stands before the first `at`, and what stands after it where there is one.
+// The bytes before the first `at`, and those after it where there is one.
 pub(crate) fn cut(text: &[u8], at: u8) -> (&[u8], Option<&[u8]>)
     ensures before { result.0.now ≡ before_first (λ c. c == at) text.now }
     ensures found { is_some result.1 ≡ list_any (λ c. c == at) text.now }
@@ -30,9 +30,10 @@ pub(crate) fn first_word(text: &[u8]) -> (&[u8], Option<&[u8]>)
     cut(text, b' ')
 }
 
-// The next word where one is left, and what is left behind it.
+// The next word where one is left, and the words after it.
 pub(crate) fn next_word(words: Option<&[u8]>) -> Option<(&[u8], Option<&[u8]>)>
-    ensures { MatchOption result (words_left words.entry ≡ []) (λ x. words_left words.entry ≡ x.0.now ∷ words_left x.1) }
+    ensures { MatchOption result (words_left words.entry ≡ [])
+        (λ x. words_left words.entry ≡ x.0.now ∷ words_left x.1) }
 {
     words.map(first_word)
 }

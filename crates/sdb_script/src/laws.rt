@@ -5,7 +5,7 @@ ghost use Rattle.sdb_script.specs.declared.line.Line.TheVariants as lines;
 ghost use Rattle.sdb_script.specs.declared.line.Line.{Line};
 ghost use Rattle.sdb_script.specs.Grammar.{line_of, most_in_line};
 ghost use Rattle.sdb_script.specs.LineTexts.{line_text, IsWithin};
-ghost use Rattle.sdb_script.specs.Numbers.{number_of};
+ghost use Rattle.sdb_script.specs.Numbers.{number_spelled};
 
 /// Texts whose lines are known.
 pub fn known_lines()
@@ -26,8 +26,10 @@ pub fn known_lines()
           ∷ [];
       version = 0;
     }))) }
-    ensures read { line_of (codes "read 01 aA") ≡ Some (lines.Job (tasks.Read (record { 0 = replicate 31 0 ++ 1 ∷ [] }) (170 ∷ []))) }
-    ensures root { line_of (codes "root 0a") ≡ Some (lines.Job (tasks.Root (record { 0 = replicate 31 0 ++ 10 ∷ [] }))) }
+    ensures read { line_of (codes "read 01 aA")
+        ≡ Some (lines.Job (tasks.Read (record { 0 = replicate 31 0 ++ 1 ∷ [] }) (170 ∷ []))) }
+    ensures root { line_of (codes "root 0a")
+        ≡ Some (lines.Job (tasks.Root (record { 0 = replicate 31 0 ++ 10 ∷ [] }))) }
     ensures none { map line_of (
         codes "new 00" ∷ codes "new 17" ∷ codes "new" ∷ codes "new 1 " ∷ codes "New 1"
         ∷ codes "read 01 a" ∷ codes "read 01  aa" ∷ codes "read 01 aa " ∷ codes "read  aa" ∷ codes "read 1 aa"
@@ -41,8 +43,8 @@ pub fn known_lines()
 
 /// A number is spelled by its decimal digits and by no other word.
 pub fn numbers_are_decimals()
-    ensures read { (n : ℕ) → n < 2 ^ 64 → number_of (decimal n) ≡ Some n }
-    ensures only { (w : List ℕ) (n : ℕ) → n < 2 ^ 64 → number_of w ≡ Some n → w ≡ decimal n }
+    ensures read { (n : ℕ) → n < 2 ^ 64 → number_spelled (decimal n) ≡ Some n }
+    ensures only { (w : List ℕ) (n : ℕ) → n < 2 ^ 64 → number_spelled w ≡ Some n → w ≡ decimal n }
 {}
 
 /// A text's line keeps the limits of the language.
@@ -52,5 +54,6 @@ pub fn lines_keep_the_limits()
 
 /// Each line within the limits has a text, which is read as that line.
 pub fn lines_are_read_as_written()
-    ensures { (line : Line) → IsWithin line → length (line_text line) ≤ most_in_line → line_of (line_text line) ≡ Some line }
+    ensures { (line : Line) → IsWithin line → length (line_text line) ≤ most_in_line
+        → line_of (line_text line) ≡ Some line }
 {}

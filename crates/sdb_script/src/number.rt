@@ -4,7 +4,8 @@ ghost use Rattle.sdb_script.specs.Numbers.{digits_value, number_within};
 // The number that the digits spell, up to `high`.
 fn digits(word: &[u8], high: u32) -> Option<u32>
     requires { high ≤ 4096 }
-    ensures { result ≡ option_and_then (λ n. if nat_le n high then Some n else None) (digits_value 0 word.now) }
+    ensures { result ≡ option_and_then (λ n. if nat_le n high then Some n else None)
+        (digits_value 0 word.now) }
 {
     let mut value = 0;
     for digit in word {

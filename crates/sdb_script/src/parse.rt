@@ -1,7 +1,7 @@
 ghost use Rattle.std.specs.Prelude.{◌≡◌, Some, None, IfOk, IsErrOf};
-ghost use Rattle.sdb_script.specs.Grammar.{line_of, is_blank, new_of, genesis_of, import_of, read_of, root_of, line_of_words, words_of};
+ghost use Rattle.sdb_script.specs.Grammar.{line_of, is_blank, new_line, genesis_line, import_line, read_line, root_line, line_of_words, words_of};
 ghost use Rattle.sdb_script.specs.LineTexts.{IsWithin};
-ghost use Rattle.sdb_script.specs.Reading.{Gives, words_left};
+ghost use Rattle.sdb_script.specs.inner.Reading.{IsParsed, words_left};
 
 use crate::changes::parse_changes;
 use crate::cursor::{first_word, next_word};
@@ -26,10 +26,10 @@ fn is_blank(line: &[u8]) -> bool
     }
 }
 
-// The line of the words behind `new`.
-#[tactic(auto, unfolding(crate::specs::Grammar::new_of))]
+// The line of the words after `new`.
+#[tactic(auto, unfolding(crate::specs::Grammar::new_line))]
 fn parse_new(words: Option<&[u8]>) -> Option<Line>
-    ensures { result ≡ new_of (words_left words.entry) }
+    ensures { result ≡ new_line (words_left words.entry) }
 {
     let (base, rest) = next_word(words)?;
     if rest.is_some() {
@@ -39,10 +39,10 @@ fn parse_new(words: Option<&[u8]>) -> Option<Line>
     Some(Line::New { base: base as u8 })
 }
 
-// The line of the words behind `genesis`.
-#[tactic(auto, unfolding(crate::specs::Grammar::genesis_of))]
+// The line of the words after `genesis`.
+#[tactic(auto, unfolding(crate::specs::Grammar::genesis_line))]
 fn parse_genesis(alloc: Global, words: Option<&[u8]>) -> Result<Line, LineFault>
-    ensures { Gives result (genesis_of (words_left words.entry)) }
+    ensures { IsParsed result (genesis_line (words_left words.entry)) }
 {
     let (id, words) = next_word(words).ok_or(LineFault::NotInGrammar)?;
     let (window, words) = next_word(words).ok_or(LineFault::NotInGrammar)?;
@@ -57,10 +57,10 @@ fn parse_genesis(alloc: Global, words: Option<&[u8]>) -> Result<Line, LineFault>
     Ok(Line::Genesis { window, block })
 }
 
-// The line of the words behind `import`.
-#[tactic(auto, unfolding(crate::specs::Grammar::import_of))]
+// The line of the words after `import`.
+#[tactic(auto, unfolding(crate::specs::Grammar::import_line))]
 fn parse_import(alloc: Global, words: Option<&[u8]>) -> Result<Line, LineFault>
-    ensures { Gives result (import_of (words_left words.entry)) }
+    ensures { IsParsed result (import_line (words_left words.entry)) }
 {
     let (id, words) = next_word(words).ok_or(LineFault::NotInGrammar)?;
     let (parent, words) = next_word(words).ok_or(LineFault::NotInGrammar)?;
@@ -77,10 +77,10 @@ fn parse_import(alloc: Global, words: Option<&[u8]>) -> Result<Line, LineFault>
     })
 }
 
-// The line of the words behind `read`.
-#[tactic(auto, unfolding(crate::specs::Grammar::read_of))]
+// The line of the words after `read`.
+#[tactic(auto, unfolding(crate::specs::Grammar::read_line))]
 fn parse_read(alloc: Global, words: Option<&[u8]>) -> Result<Line, LineFault>
-    ensures { Gives result (read_of (words_left words.entry)) }
+    ensures { IsParsed result (read_line (words_left words.entry)) }
 {
     let (id, words) = next_word(words).ok_or(LineFault::NotInGrammar)?;
     let (key, rest) = next_word(words).ok_or(LineFault::NotInGrammar)?;
@@ -94,10 +94,10 @@ fn parse_read(alloc: Global, words: Option<&[u8]>) -> Result<Line, LineFault>
     })
 }
 
-// The line of the words behind `root`.
-#[tactic(auto, unfolding(crate::specs::Grammar::root_of))]
+// The line of the words after `root`.
+#[tactic(auto, unfolding(crate::specs::Grammar::root_line))]
 fn parse_root(words: Option<&[u8]>) -> Option<Line>
-    ensures { result ≡ root_of (words_left words.entry) }
+    ensures { result ≡ root_line (words_left words.entry) }
 {
     let (id, rest) = next_word(words)?;
     if rest.is_some() {
@@ -112,7 +112,7 @@ fn parse_root(words: Option<&[u8]>) -> Option<Line>
 // The line of a text of words.
 #[tactic(auto, unfolding(crate::specs::Grammar::line_of_words))]
 fn parse_words(alloc: Global, line: &[u8]) -> Result<Line, LineFault>
-    ensures { Gives result (line_of_words (words_of line.now)) }
+    ensures { IsParsed result (line_of_words (words_of line.now)) }
 {
     let (word, words) = first_word(line);
     if word == b"new".as_slice() {

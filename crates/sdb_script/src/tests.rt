@@ -157,7 +157,7 @@ fn texts_that_are_no_lines(rt: HostRuntime) {
     }
 }
 
-// A line with the unit so many times behind its front.
+// A line of a front and then the unit, so many times.
 fn repeated(alloc: Global, front: &str, unit: &str, count: usize) -> Result<Vec<u8>, AllocError> {
     let mut text = Vec::from_slice(alloc, front.as_bytes())?;
     for _ in 0..count {

@@ -20,7 +20,7 @@ pub fn reply_text(alloc: Global, reply: &LineReply, out: &mut Vec<u8>) -> Result
     appended
 }
 
-// The same, but that an `Err` may leave bytes behind those that were there.
+// The same, but that an `Err` may leave bytes after those that were there.
 #[tactic(auto, unfolding(crate::specs::Texts::reply_text))]
 fn append_reply(alloc: Global, reply: &LineReply, out: &mut Vec<u8>) -> Result<(), AllocError>
     ensures ok { OnOk result (out.new.items ≡ out.old.items ++ texts.reply_text reply.now) }
@@ -56,7 +56,7 @@ fn append_job(alloc: Global, reply: &Reply, out: &mut Vec<u8>) -> Result<(), All
     }
 }
 
-// Both parts, one behind the other.
+// Both parts, one after the other.
 fn append_both(front: &[u8], back: &[u8], out: &mut Vec<u8>) -> Result<(), AllocError>
     ensures ok { OnOk result (out.new.items ≡ out.old.items ++ (front.now ++ back.now)) }
     ensures err { OnErr result (take (length out.old.items) out.new.items ≡ out.old.items) }

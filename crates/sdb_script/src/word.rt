@@ -1,6 +1,6 @@
 ghost use Rattle.std.specs.Prelude.{◌≡◌, ◌≤◌, Some, option_and_then};
 ghost use Rattle.std.specs.Option.{option_map};
-ghost use Rattle.sdb_script.specs.Reading.{Gives, fault_of};
+ghost use Rattle.sdb_script.specs.inner.Reading.{IsParsed, fault_of};
 ghost use Rattle.sdb_script.specs.Words.{id_of, bytes_of, change_to, deletion_of, change_of, most_in_key, most_in_value};
 
 use crate::cursor::cut;
@@ -38,7 +38,7 @@ fn fault_of(error: FromHexError) -> LineFault
 // The bytes that the word spells, at most `most`.
 fn parse_bytes(alloc: Global, word: &[u8], most: usize) -> Result<Bytes, LineFault>
     requires { most ≤ 4194304 }
-    ensures { Gives result (bytes_of most word.now) }
+    ensures { IsParsed result (bytes_of most word.now) }
 {
     if word == b"-".as_slice() {
         return Ok(Bytes::new(alloc));
@@ -54,7 +54,7 @@ fn parse_bytes(alloc: Global, word: &[u8], most: usize) -> Result<Bytes, LineFau
 
 // `KEY=VALUE`, cut at the first `=`.
 fn parse_setting(alloc: Global, key: &[u8], value: &[u8]) -> Result<Change, LineFault>
-    ensures { Gives result (option_and_then (λ key. option_map (λ value. change_to key (Some value))
+    ensures { IsParsed result (option_and_then (λ key. option_map (λ value. change_to key (Some value))
         (bytes_of most_in_value value.now)) (bytes_of most_in_key key.now)) }
 {
     let key = parse_bytes(alloc, key, MOST_IN_KEY)?;
@@ -68,7 +68,7 @@ fn parse_setting(alloc: Global, key: &[u8], value: &[u8]) -> Result<Change, Line
 
 // `KEY!`.
 fn parse_deletion(alloc: Global, word: &[u8]) -> Result<Change, LineFault>
-    ensures { Gives result (deletion_of word.now) }
+    ensures { IsParsed result (deletion_of word.now) }
 {
     let (key, Some([])) = cut(word, b'!') else {
         return Err(LineFault::NotInGrammar);
@@ -83,7 +83,7 @@ fn parse_deletion(alloc: Global, word: &[u8]) -> Result<Change, LineFault>
 // The change that the word spells.
 #[tactic(auto, unfolding(crate::specs::Words::change_of))]
 pub(crate) fn parse_change(alloc: Global, word: &[u8]) -> Result<Change, LineFault>
-    ensures { Gives result (change_of word.now) }
+    ensures { IsParsed result (change_of word.now) }
 {
     match cut(word, b'=') {
         (key, Some(value)) => parse_setting(alloc, key, value),
@@ -93,7 +93,7 @@ pub(crate) fn parse_change(alloc: Global, word: &[u8]) -> Result<Change, LineFau
 
 // The key that the word spells.
 pub(crate) fn parse_key(alloc: Global, word: &[u8]) -> Result<Bytes, LineFault>
-    ensures { Gives result (bytes_of most_in_key word.now) }
+    ensures { IsParsed result (bytes_of most_in_key word.now) }
 {
     parse_bytes(alloc, word, MOST_IN_KEY)
 }

@@ -12,27 +12,26 @@ use Rattle.std.specs.Cmp.Lexicographic.{slice_cmp}
 use Rattle.std.proofs.lemmas.List.{get_or-map, length-map}
 use Rattle.std.proofs.lemmas.Map.Views.{All-keys-insert_entry, All-map-remove_entry, All-values-insert_entry}
 use Rattle.sdb_base.specs.declared.Pair.{Pair}
-use Rattle.sdb_model.specs.Limits.{most_in_key, most_in_value}
-use Rattle.sdb_serve.specs.inner.Lengths.{AllShort}
+use Rattle.sdb_model.specs.Limits.{EntriesAreWithin, most_in_key, most_in_value}
 use Rattle.trie_root.specs.Pairs.{AllWithin, entries_of}
 
-pub short_inserted : (k v : List ℕ) (es : List (List ℕ × List ℕ)) → AllShort es → length k ≤ most_in_key → length v ≤ most_in_value
-    → AllShort (insert_entry (slice_cmp nat_cmp) es k v)
+pub short_inserted : (k v : List ℕ) (es : List (List ℕ × List ℕ)) → EntriesAreWithin es → length k ≤ most_in_key → length v ≤ most_in_value
+    → EntriesAreWithin (insert_entry (slice_cmp nat_cmp) es k v)
 short_inserted k v es h key value = record {
   keys = All-keys-insert_entry (slice_cmp nat_cmp) k v (λ k. length k ≤ most_in_key) es h.keys key;
   values = All-values-insert_entry (slice_cmp nat_cmp) k v (λ v. length v ≤ most_in_value) es h.values value;
 }
 
-pub short_removed : (test : List ℕ → Bool) (es : List (List ℕ × List ℕ)) → AllShort es → AllShort (remove_entry test es)
+pub short_removed : (test : List ℕ → Bool) (es : List (List ℕ × List ℕ)) → EntriesAreWithin es → EntriesAreWithin (remove_entry test es)
 short_removed test es h = record {
   keys = All-map-remove_entry test (λ (e : List ℕ × List ℕ). e.0) (λ k. length k ≤ most_in_key) es h.keys;
   values = All-map-remove_entry test (λ (e : List ℕ × List ℕ). e.1) (λ v. length v ≤ most_in_value) es h.values;
 }
 
 -- the pairs of short entries are within their limits
-pub pairs_within : (pairs : List Pair) (es : List (List ℕ × List ℕ)) → entries_of pairs ≡ es → AllShort es → AllWithin pairs
+pub pairs_within : (pairs : List Pair) (es : List (List ℕ × List ℕ)) → entries_of pairs ≡ es → EntriesAreWithin es → AllWithin pairs
 pairs_within pairs es e h k d lt =
-    let short : AllShort (entries_of pairs) = subst AllShort (sym e) h in
+    let short : EntriesAreWithin (entries_of pairs) = subst EntriesAreWithin (sym e) h in
     let to_entry : Pair → List ℕ × List ℕ = λ p. (p.key, p.value) in
     let n : length (entries_of pairs) ≡ length pairs = length-map pairs to_entry in
     let at : get_or (entries_of pairs) k (to_entry d) ≡ to_entry (get_or pairs k d) = get_or-map to_entry pairs k d (to_entry d) lt in

@@ -98,7 +98,7 @@ IsNext left r line = IsAnswered r line
     ⊎ ((cause : Cause) × MayStop cause left r × (last_line cause (length r.lines) ≡ line ∷ []))
 
 -- the sink failed at the next line, and got the replies before it and a prefix of it or nothing
-pub record IsCutOff (left : Option (List ℕ)) (r : Run) (old new : Output) : Type 0 where
+pub record IsCutShort (left : Option (List ℕ)) (r : Run) (old new : Output) : Type 0 where
   pub line : List ℕ
   pub next : IsNext left r line
   pub written : GetsPrefix old new r.replies line
@@ -110,7 +110,7 @@ pub record IsRunOf (status : Status) (input : List ℕ) (left : Option (List ℕ
   pub run : IsRun at input
   pub near : Waits IsNear left at
   pub stopped : ((cause : Cause) × (status ≡ status_of cause) × StopsFor cause left at old new)
-      ⊎ ((status ≡ SinkFault) × IsCutOff left at old new)
+      ⊎ ((status ≡ SinkFault) × IsCutShort left at old new)
 
 -- Two faults: a run of this input asked the source, which failed, and then the sink failed at the last line for that.
 pub record FailsTwice (input : List ℕ) (left : Option (List ℕ)) (old new : Output) : Type 0 where

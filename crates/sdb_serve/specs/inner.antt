@@ -1,5 +1,4 @@
 -- What only the crate's own clauses cite.
 pub mod Blocks
-pub mod Lengths
 pub mod Pieces
 pub mod Steps

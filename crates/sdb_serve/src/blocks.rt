@@ -1,7 +1,7 @@
 ghost use Rattle.std.specs.Prelude.{◌≡◌, ◌↔◌, List, [], ◌∷◌, slice_index, All, IsTrue, IfOk, OnOk, OnErr, Some};
 ghost use Rattle.sdb_base.specs.declared.Block.{Block};
 ghost use Rattle.sdb_model.specs.Blocks.{state_of};
-ghost use Rattle.sdb_script.specs.LineTexts.{IsChange};
+ghost use Rattle.sdb_model.specs.Limits.{ChangeIsWithin};
 ghost use Rattle.sdb_serve.specs.Jobs.{blocks_after, import_reply, read_reply, root_reply};
 
 use crate::state_map::StateMap;
@@ -53,7 +53,7 @@ impl BlockMap {
 
     /// Accepts genesis, where no block was accepted. An `Err` leaves the blocks as they were.
     pub(crate) fn genesis(&mut self, block: &Block) -> Result<(), OutOfMemory>
-        requires { All IsChange block.now.changes }
+        requires { All ChangeIsWithin block.now.changes }
         ensures ok { RepresentsBlocks self.old [] → OnOk result (RepresentsBlocks self.new (block.now ∷ [])) }
         ensures err { (blocks : List Block) → RepresentsBlocks self.old blocks → OnErr result (RepresentsBlocks self.new blocks) }
     {
@@ -90,7 +90,7 @@ impl BlockMap {
     /// The reply to an import of a block, which is then accepted unless it is refused; none where its number has as
     /// many blocks as it may have. An `Err` leaves the blocks as they were.
     pub(crate) fn import(&mut self, block: &Block) -> Result<Option<Reply>, OutOfMemory>
-        requires { All IsChange block.now.changes }
+        requires { All ChangeIsWithin block.now.changes }
         ensures answer { (blocks : List Block) → RepresentsBlocks self.old blocks
             → IfOk result (λ reply. reply ≡ import_reply blocks block.now) }
         ensures after { (blocks : List Block) → RepresentsBlocks self.old blocks

@@ -3,7 +3,7 @@ ghost use Rattle.std.specs.FinMap as map;
 ghost use Rattle.std.specs.Option.{option_copied};
 ghost use Rattle.sdb_model.specs.State.{apply, no_keys, with_key};
 ghost use Rattle.sdb_model.specs.Trie.{trie_root};
-ghost use Rattle.sdb_script.specs.LineTexts.{IsChange};
+ghost use Rattle.sdb_model.specs.Limits.{ChangeIsWithin};
 ghost use Rattle.trie_root.specs.Pairs.{KeysRise, entries_of};
 
 use sdb_base::{Bytes, Change, NodeHash, OutOfMemory, Pair, Pairs, TryCopy};
@@ -23,7 +23,7 @@ impl Model for StateMap {
     ghost use Rattle.std.specs.Coded.{coded_list, coded_ℕ};
     ghost use Rattle.std.specs.FinMap as map;
     ghost use Rattle.sdb_model.specs.State.{State};
-    ghost use Rattle.sdb_serve.specs.inner.Lengths.{AllShort};
+    ghost use Rattle.sdb_model.specs.Limits.{EntriesAreWithin};
 
     ghost Value = { State };
 
@@ -31,7 +31,7 @@ impl Model for StateMap {
 
     ghost view = { λ s. map.from_entries s.entries.entries };
 
-    ghost invariant = { λ s. AllShort s.entries.entries };
+    ghost invariant = { λ s. EntriesAreWithin s.entries.entries };
 }
 
 impl StateMap {
@@ -53,7 +53,7 @@ impl StateMap {
 
     /// Sets the key of a change to its value, or deletes it. An `Err` changes nothing.
     pub(crate) fn change(&mut self, alloc: Global, change: &Change) -> Result<(), OutOfMemory>
-        requires { IsChange change.now }
+        requires { ChangeIsWithin change.now }
         ensures ok { OnOk result (self.new ≡ with_key self.old change.now.key change.now.value) }
         ensures err { OnErr result (self.new ≡ self.old) }
     {
@@ -76,7 +76,7 @@ impl StateMap {
         alloc: Global,
         changes: &[Change],
     ) -> Result<StateMap, OutOfMemory>
-        requires { All IsChange changes.now }
+        requires { All ChangeIsWithin changes.now }
         ensures { IfOk result (λ s. s ≡ apply self.now changes.now) }
     {
         let mut after = StateMap {

@@ -2,7 +2,7 @@ use Rattle.std.proofs.Common.{◌∷◌, [], length, ap, arith}
 use Rattle.std.proofs.lemmas.Result.{err_from_is_err_and}
 use Rattle.std.proofs.lemmas.List.{length-append}
 use Rattle.sdb_script.specs.Grammar.{each_change}
-use Rattle.sdb_script.specs.Reading.{words_left}
+use Rattle.sdb_script.specs.inner.Reading.{words_left}
 use Rattle.sdb_script.proofs.Changing.{goes_on, too_many, word_fault, all_changes}
 use Rattle.sdb_script.proofs.changes.parse_changes.Goals as goal
 

@@ -1,6 +1,6 @@
 use Rattle.std.proofs.Common.{◌≡◌, ◌+◌, ◌≤◌, length}
 use Rattle.sdb_script.specs.Grammar.{each_change}
-use Rattle.sdb_script.specs.Reading.{words_left}
+use Rattle.sdb_script.specs.inner.Reading.{words_left}
 use Rattle.sdb_script.proofs.Changing.{with_front}
 use Rattle.sdb_script.proofs.changes.parse_changes.Given as goal
 

@@ -1,10 +1,10 @@
 use Rattle.std.proofs.Common.{◌≡◌, ◌∷◌, [], ℕ, List, Option, Bor, sym, ◌∙◌}
 use Rattle.std.proofs.lemmas.Option.{MatchOption-at_some}
-use Rattle.sdb_script.specs.Reading.{words_left}
+use Rattle.sdb_script.specs.inner.Reading.{words_left}
 use Rattle.sdb_script.proofs.Longer.{read_longer}
 use Rattle.sdb_script.proofs.parse.parse_read.Goals as goal
 
--- the word that was read, and those behind it
+-- the word that was read, and those after it
 abbrev Next : Option (Bor (List ℕ)) → Bor (List ℕ) × Option (Bor (List ℕ)) → Type 0
 Next words x = words_left words ≡ x.0.now ∷ words_left x.1
 

@@ -1,5 +1,5 @@
 use Rattle.std.proofs.Common.{sym, ◌∙◌}
-use Rattle.sdb_script.specs.Reading.{words_left}
+use Rattle.sdb_script.specs.inner.Reading.{words_left}
 use Rattle.sdb_script.proofs.Longer.{root_longer}
 use Rattle.sdb_script.proofs.parse.parse_root.Goals as goal
 

@@ -1,14 +1,12 @@
 use Rattle.std.proofs.Common.{◌≡◌, ℕ, List, Some, None, sym, ap, ap₂, subst, ◌∙◌, arith}
-use Rattle.std.specs.Prelude.{IfSome}
+use Rattle.std.specs.Prelude.{◌≤◌, length, IfSome}
 use Rattle.std.specs.BTreeMap.{insert_entry}
 use Rattle.std.specs.FinMap.{from_entries}
 use Rattle.std.specs.Ordering.{nat_cmp}
 use Rattle.std.specs.Cmp.Lexicographic.{slice_cmp}
 use Rattle.sdb_model.specs.State.{with_key}
 use Rattle.sdb_base.specs.declared.Change.{Change}
-use Rattle.sdb_model.specs.Limits.{most_in_value}
-use Rattle.sdb_script.specs.LineTexts.{IsChange, IsShort}
-use Rattle.sdb_serve.specs.inner.Lengths.{AllShort}
+use Rattle.sdb_model.specs.Limits.{ChangeIsWithin, EntriesAreWithin, most_in_value}
 use Rattle.sdb_serve.proofs.Lasting.{short_inserted, short_removed}
 use Rattle.sdb_serve.proofs.Entries.{one_changed}
 use Rattle.sdb_serve.proofs.state_map.StateMap.change.Goals as goal
@@ -33,11 +31,11 @@ pub invariant_of-self : goal.invariant_of-self
 invariant_of-self c = rw c.remove.ensures.entries (short_removed _ c.self.inside.entries.entries c.self.invariant)
 
 -- the key and the value that are set are those of the change
-set_short : (change : Change) (k v v' : List ℕ) (es : List (List ℕ × List ℕ)) → IsChange change → change.value ≡ Some v' → k ≡ change.key → v ≡ v' → AllShort es
-    → AllShort (insert_entry (slice_cmp nat_cmp) es k v)
+set_short : (change : Change) (k v v' : List ℕ) (es : List (List ℕ × List ℕ)) → ChangeIsWithin change → change.value ≡ Some v' → k ≡ change.key → v ≡ v' → EntriesAreWithin es
+    → EntriesAreWithin (insert_entry (slice_cmp nat_cmp) es k v)
 set_short change k v v' es h is key value before =
-    let set : IfSome (Some v') (IsShort most_in_value) = subst (λ o. IfSome o (IsShort most_in_value)) is h.value in
-    short_inserted k v es before (rw key h.key.0) (rw value set.0)
+    let set : IfSome (Some v') (λ v. length v ≤ most_in_value) = subst (λ o. IfSome o (λ v. length v ≤ most_in_value)) is h.short_value in
+    short_inserted k v es before (rw key h.short_key) (rw value set)
 
 pub invariant_of-self-in_ok-insert-in-Some : goal.invariant_of-self-in_ok-insert-in-Some
 invariant_of-self-in_ok-insert-in-Some c = rw c.in_ok-insert-in-Some.ensures.entries

@@ -8,10 +8,10 @@ use Rattle.hex.specs.declared.error.FromHexError.TheVariants as hex_errors
 use Rattle.sdb_script.specs.Grammar.{words_of}
 
 -- a reader answered what its definition gives, unless memory ran out
-abbrev pub Gives : {X : Type 0} → Result X LineFault → Option X → Type 0
-Gives (Ok x) given = given ≡ Some x
-Gives (Err NotInGrammar) given = given ≡ None
-Gives (Err OutOfMemory) given = Unit {0}
+abbrev pub IsParsed : {X : Type 0} → Result X LineFault → Option X → Type 0
+IsParsed (Ok x) given = given ≡ Some x
+IsParsed (Err NotInGrammar) given = given ≡ None
+IsParsed (Err OutOfMemory) given = Unit {0}
 
 -- why a word of digits gave no bytes
 abbrev pub fault_of : FromHexError → LineFault

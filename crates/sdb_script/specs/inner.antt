@@ -1,0 +1,2 @@
+-- Definitions for the clauses of private functions and for their proofs. No other crate cites them.
+pub mod Reading
