@@ -2,11 +2,11 @@
 use Rattle.std.proofs.Common.{◌≡◌, ◌≢◌, ℕ, ◌+◌, ◌-◌, List, [], ◌∷◌, ◌++◌, length, get_or, Bool, true, false, nat_le, nat_lt, ◌&&◌, if◌then◌else◌, inl, inr, refl, sym, ◌∙◌, ap, subst, arith, ⊎_elim, ◌⊎◌}
 use Rattle.std.proofs.lemmas.Bool.{cases_lt}
 use Rattle.std.proofs.lemmas.Bool.Decides.{nat_tests}
-use Rattle.pdb_disk.specs.Files.{Content, FileState, Files, Step, Begins, Settles, Spares, AllSpare, IsImage, IsFileImage, done, reads_of}
+use Rattle.pdb_disk.specs.Files.{FileBytes, FileState, Files, Step, Begins, Settles, Spares, AllSpare, IsImage, IsFileImage, done, reads_of}
 use Rattle.pdb_disk.specs.Files.{Step as step}
 
 -- a place beside a step reads as before
-pub done_spared : (c : Content) (s : Step) (i : ℕ) → Spares s i → done c s i ≡ c i
+pub done_spared : (c : FileBytes) (s : Step) (i : ℕ) → Spares s i → done c s i ≡ c i
 done_spared c (step.Write at bytes) i (inl low) =
     let out : nat_le at i ≡ false = grind (arith, nat_tests) in
     rw out refl
@@ -43,7 +43,7 @@ begins_image file s old new b h j = ⊎_elim
     here : IsFileImage (new file) (new file).read
     here i sp =
         let rest = spared_last (old file).since s i (subst (λ (ss : List Step). AllSpare ss i) b.since sp) in
-        b.spared i rest.1 ∙ h file i rest.0 ∙ sym (ap (λ (c : Content). c i) b.kept)
+        b.spared i rest.1 ∙ h file i rest.0 ∙ sym (ap (λ (c : FileBytes). c i) b.kept)
 
 pub settles_image : (file : ℕ) (old new : Files) → Settles file old new → IsImage old (reads_of old) → IsImage new (reads_of new)
 settles_image file old new b h j = ⊎_elim
@@ -52,8 +52,8 @@ settles_image file old new b h j = ⊎_elim
     (which j file)
   where
     here : IsFileImage (new file) (new file).read
-    here i sp = ap (λ (c : Content). c i) b.read ∙ sym (ap (λ (c : Content). c i) b.kept)
+    here i sp = ap (λ (c : FileBytes). c i) b.read ∙ sym (ap (λ (c : FileBytes). c i) b.kept)
 
 -- after a sync a crash leaves what is read
-pub synced_image : (file : ℕ) (old new : Files) (c : Content) → Settles file old new → IsFileImage (new file) c → (i : ℕ) → c i ≡ (old file).read i
-synced_image file old new c b h i = h i (subst (λ (ss : List Step). AllSpare ss i) (sym b.since) tt) ∙ ap (λ (d : Content). d i) b.kept
+pub synced_image : (file : ℕ) (old new : Files) (c : FileBytes) → Settles file old new → IsFileImage (new file) c → (i : ℕ) → c i ≡ (old file).read i
+synced_image file old new c b h i = h i (subst (λ (ss : List Step). AllSpare ss i) (sym b.since) tt) ∙ ap (λ (d : FileBytes). d i) b.kept

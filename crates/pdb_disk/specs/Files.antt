@@ -3,8 +3,8 @@ use Rattle.std.specs.Prelude.{◌≡◌, ◌≢◌, ◌⊎◌, ℕ, ◌+◌, ◌
 use Rattle.sdb_io.specs.Faults.{one_more}
 
 -- the byte at each place of a file, zero past the last one that was written
-abbrev pub Content : Type 0
-Content = ℕ → ℕ
+abbrev pub FileBytes : Type 0
+FileBytes = ℕ → ℕ
 
 -- a write of these bytes at this place, or a cut of the whole file
 pub data Step : Type 0 where
@@ -13,8 +13,8 @@ pub data Step : Type 0 where
 
 -- what a read gives, what it gave at the last sync that succeeded, and the writes and cuts begun after that
 pub record FileState : Type 0 where
-  pub read : Content
-  pub kept : Content
+  pub read : FileBytes
+  pub kept : FileBytes
   pub since : List Step
 
 -- each file by its number
@@ -23,10 +23,10 @@ Files = ℕ → FileState
 
 -- each file's bytes as a crash leaves them
 abbrev pub Image : Type 0
-Image = ℕ → Content
+Image = ℕ → FileBytes
 
 -- a file that was synced after its last write and cut
-abbrev pub settled : Content → FileState
+abbrev pub settled : FileBytes → FileState
 settled c = record { read = c; kept = c; since = [] }
 
 -- the step doesn't cover this place: it lies beside the written bytes, and a cut covers all places
@@ -39,7 +39,7 @@ AllSpare [] i = Unit {0}
 AllSpare (s ∷ ss) i = Spares s i × AllSpare ss i
 
 -- a file after a step that was done whole
-abbrev pub done : Content → Step → Content
+abbrev pub done : FileBytes → Step → FileBytes
 done c (Write at bytes) = λ i. if nat_le at i && nat_lt i (at + length bytes) then get_or bytes (i - at) 0 else c i
 done c Cut = λ i. 0
 
@@ -48,7 +48,7 @@ abbrev pub reads_of : Files → Image
 reads_of fs = λ j. (fs j).read
 
 -- A crash may leave this of a file: any bytes where a step since the last sync covers, and the kept ones elsewhere.
-abbrev pub IsFileImage : FileState → Content → Type 0
+abbrev pub IsFileImage : FileState → FileBytes → Type 0
 IsFileImage s c = (i : ℕ) → AllSpare s.since i → c i ≡ s.kept i
 
 -- a crash may leave these files
@@ -56,7 +56,7 @@ abbrev pub IsImage : Files → Image → Type 0
 IsImage fs x = (j : ℕ) → IsFileImage (fs j) (x j)
 
 -- these bytes stand in the file from this place on
-abbrev pub StandsAt : Content → ℕ → List ℕ → Type 0
+abbrev pub StandsAt : FileBytes → ℕ → List ℕ → Type 0
 StandsAt c at bytes = (i : ℕ) → i < length bytes → slice_index bytes i ≡ c (at + i)
 
 -- The clock rises by one, but not past its last value, and each moment up to the earlier clock has the files that

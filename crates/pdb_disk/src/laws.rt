@@ -1,5 +1,5 @@
 ghost use Rattle.std.specs.Prelude.{◌≡◌, ◌-◌, ◌^◌, ◌==◌, ℕ, Bool, IsTrue, [], ◌∷◌, if◌then◌else◌};
-ghost use Rattle.pdb_disk.specs.Files.{Content, FileState, Files, Step, Elapses, Begins, MayBegin, Settles, Spares, IsFileImage, IsImage, StandsAt, done, reads_of, settled};
+ghost use Rattle.pdb_disk.specs.Files.{FileBytes, FileState, Files, Step, Elapses, Begins, MayBegin, Settles, Spares, IsFileImage, IsImage, StandsAt, done, reads_of, settled};
 ghost use Rattle.pdb_disk.specs.Files.{Step as step};
 ghost use Rattle.pdb_disk.specs.Moments.{Moments};
 
@@ -40,11 +40,11 @@ pub fn known_clocks()
 pub fn known_images()
     ensures pending { (x y : ℕ) → IsFileImage (record { read = λ i. 7; kept = λ i. 7; since = step.Write 3 (1 ∷ 2 ∷ []) ∷ [] })
         (done (λ i. 7) (step.Write 3 (x ∷ y ∷ []))) }
-    ensures beside { (c : Content) → IsFileImage (record { read = λ i. 7; kept = λ i. 7; since = step.Write 3 (1 ∷ 2 ∷ []) ∷ [] }) c
+    ensures beside { (c : FileBytes) → IsFileImage (record { read = λ i. 7; kept = λ i. 7; since = step.Write 3 (1 ∷ 2 ∷ []) ∷ [] }) c
         → (c 2 ≡ 7) × (c 5 ≡ 7) }
-    ensures cut { (c d : Content) → IsFileImage (record { read = c; kept = c; since = step.Cut ∷ [] }) d }
-    ensures settled { (c d : Content) → IsFileImage (settled c) d → (i : ℕ) → d i ≡ c i }
-    ensures synced { (file : ℕ) (old new : Files) (c : Content) → Settles file old new → IsFileImage (new file) c
+    ensures cut { (c d : FileBytes) → IsFileImage (record { read = c; kept = c; since = step.Cut ∷ [] }) d }
+    ensures settled { (c d : FileBytes) → IsFileImage (settled c) d → (i : ℕ) → d i ≡ c i }
+    ensures synced { (file : ℕ) (old new : Files) (c : FileBytes) → Settles file old new → IsFileImage (new file) c
         → (i : ℕ) → c i ≡ (old file).read i }
 {}
 

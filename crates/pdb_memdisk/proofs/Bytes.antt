@@ -3,7 +3,7 @@ use mathlib.Core.Path.{fun_ext}
 use Rattle.std.proofs.Common.{◌≡◌, ◌≢◌, ℕ, zero, suc, ◌<◌, ◌≤◌, List, [], ◌∷◌, ◌++◌, length, get_or, take, set, replicate, if◌then◌else◌, ◌==◌, Bool, true, false, refl, sym, ap, ◌∙◌, arith}
 use Rattle.std.proofs.lemmas.Bool.Decides.{nat_tests}
 use Rattle.std.proofs.lemmas.List.{get_or-set_same, get_or-set_other, take_all}
-use Rattle.pdb_disk.specs.Files.{Content, Step, done}
+use Rattle.pdb_disk.specs.Files.{FileBytes, Step, done}
 use Rattle.pdb_memdisk.specs.Contents.{content_of, image_of, changed}
 
 pub content_nil : (i : ℕ) → content_of [] i ≡ 0
@@ -27,7 +27,7 @@ content_padded xs n = fun_ext (λ i. padded_at xs n i)
 pub content_resized : (xs : List ℕ) (n k : ℕ) → length xs ≤ n → content_of (take n xs ++ replicate k 0) ≡ content_of xs
 content_resized xs n k le = ap (λ ys. content_of (ys ++ replicate k 0)) (take_all n xs le) ∙ content_padded xs k
 
-pub same_content : (c d : Content) → ((i : ℕ) → c i ≡ d i) → c ≡ d
+pub same_content : (c d : FileBytes) → ((i : ℕ) → c i ≡ d i) → c ≡ d
 same_content c d h = fun_ext h
 
 more_at : (xs : List (List ℕ)) (j : ℕ) → get_or (xs ++ [] ∷ []) j [] ≡ get_or xs j []

@@ -5,7 +5,7 @@ use Rattle.std.proofs.lemmas.Bool.Decides.{nat_tests}
 use Rattle.std.specs.List.{list_any}
 use Rattle.std.proofs.lemmas.List.{append-nil}
 use Rattle.std.proofs.lemmas.List.Elements.{filter_map-append}
-use Rattle.pdb_disk.specs.Files.{Content, FileState, Files, Image, Step, done}
+use Rattle.pdb_disk.specs.Files.{FileBytes, FileState, Files, Image, Step, done}
 use Rattle.pdb_memdisk.specs.Contents.{all_settled}
 use Rattle.pdb_memdisk.specs.Record.{step_of, acted, applied, played, replayed}
 use Rattle.pdb_memdisk.specs.Images.{Placed, is_sync, syncs, placed, pending, steps_on, kept_step, keeps_of}
@@ -17,13 +17,13 @@ abbrev pub kept_after : Image → List Call → Image
 kept_after x [] = x
 kept_after x (c ∷ cs) = kept_after (kept_step x c cs) cs
 
-abbrev one_applied : Content → Action → Content
+abbrev one_applied : FileBytes → Action → FileBytes
 one_applied y (Changes s) = done y (step_of s)
 one_applied y Syncs = y
 
 -- one call of a file, where b says whether a later one syncs it
-one_kept : (f : FileState) (y : Content) (a : Action) (ok b : Bool) → y ≡ (if (ok && is_sync a) || b then f.read else f.kept) → (if b && ok then one_applied y a else y) ≡ (if b then (acted f a ok).read else (acted f a ok).kept)
-one_kept f y (Changes s) true true h = ap (λ (z : Content). done z (step_of s)) h
+one_kept : (f : FileState) (y : FileBytes) (a : Action) (ok b : Bool) → y ≡ (if (ok && is_sync a) || b then f.read else f.kept) → (if b && ok then one_applied y a else y) ≡ (if b then (acted f a ok).read else (acted f a ok).kept)
+one_kept f y (Changes s) true true h = ap (λ (z : FileBytes). done z (step_of s)) h
 one_kept f y (Changes s) false true h = h
 one_kept f y (Changes s) true false h = h
 one_kept f y (Changes s) false false h = h

@@ -1,9 +1,9 @@
 -- The bytes of files in memory, as contents of a disk's files.
 use Rattle.std.specs.Prelude.{ℕ, ◌==◌, if◌then◌else◌, List, [], get_or}
-use Rattle.pdb_disk.specs.Files.{Content, Image, Files, Step, done, settled}
+use Rattle.pdb_disk.specs.Files.{FileBytes, Image, Files, Step, done, settled}
 
 -- these bytes, and zeros past them
-abbrev pub content_of : List ℕ → Content
+abbrev pub content_of : List ℕ → FileBytes
 content_of bytes = λ i. get_or bytes i 0
 
 -- the files of these bytes by their numbers, and empty ones past them

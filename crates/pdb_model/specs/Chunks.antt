@@ -43,8 +43,8 @@ abbrev pub chunk_bytes : List ℕ → List ℕ
 chunk_bytes entries = flat_map (to_le_bytes w64) entries
 
 -- the rule of an entry: it is empty, or names a tier and one of its slots, up to the tier's end
-abbrev pub IsEntry : (ℕ → ℕ) → ℕ → Type 0
-IsEntry end_of entry = (entry ≡ 0)
+abbrev pub IsIndexEntry : (ℕ → ℕ) → ℕ → Type 0
+IsIndexEntry end_of entry = (entry ≡ 0)
     ⊎ ((entry_tier entry ≤ 15) × (1 ≤ entry_slot entry) × (entry_slot entry ≤ end_of (entry_tier entry)))
 
 -- the first empty place of a chunk

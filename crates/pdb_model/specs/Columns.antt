@@ -3,7 +3,7 @@
 use Rattle.std.specs.Prelude.{◌≡◌, ◌≢◌, ◌⊎◌, ◌<◌, ◌≤◌, ◌+◌, ◌-◌, ◌*◌, ◌^◌, ℕ, List, [], length, replicate, slice_get, All, Option, Some, None}
 use Rattle.sdb_base.specs.Content.{Counted}
 use Rattle.pdb_cells.specs.Content.{Content}
-use Rattle.pdb_model.specs.Chunks.{CarriesKey, IsChunk, IsEntry, chunk_bytes, chunk_number, entry_slot, entry_tier}
+use Rattle.pdb_model.specs.Chunks.{CarriesKey, IsChunk, IsIndexEntry, chunk_bytes, chunk_number, entry_slot, entry_tier}
 use Rattle.pdb_model.specs.Heads.{Head, IsHead, SpellsHead}
 use Rattle.pdb_model.specs.Tables.{Held, IsSettled, IsTable, SpellsTable, Table, held}
 use Rattle.pdb_model.specs.Files.{head_cell, index_file, table_cells}
@@ -43,7 +43,7 @@ pub record IsColumn (c : Column) : Type 0 where
   pub tables : (tier : ℕ) → tier < 16 → IsTable (c.tables tier)
   pub settled : (tier : ℕ) → tier < 16 → IsSettled (c.tables tier)
   -- an entry names a slot that holds a value, stands in the chunk of its key, and carries that key's bits
-  pub named : (p : Place) (entry : ℕ) → HasEntry c p entry → IsEntry (end_of c) entry
+  pub named : (p : Place) (entry : ℕ) → HasEntry c p entry → IsIndexEntry (end_of c) entry
       × ((h : Held) × (held_by c entry ≡ Some h) × (chunk_number p.bits h.key ≡ p.chunk) × CarriesKey c.base h.key entry)
   -- no two entries name one slot
   pub once : (p q : Place) (e f : ℕ) → HasEntry c p e → HasEntry c q f

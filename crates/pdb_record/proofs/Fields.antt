@@ -6,7 +6,7 @@ use Rattle.std.proofs.lemmas.Nat.{from_le_bytes-to_le_bytes_8}
 use Rattle.pdb_model.specs.Gates.{IsGateSlot, gate_bytes}
 use Rattle.pdb_model.specs.Records.{IsHeader, header_bytes}
 use Rattle.pdb_model.specs.declared.gate_slot.GateSlot.{GateSlot}
-use Rattle.pdb_record.specs.Heads.{IsHead}
+use Rattle.pdb_record.specs.Heads.{IsHeaderOf}
 use Rattle.pdb_record.specs.declared.heads.Head.{Head}
 
 pub same_number : (a b : ℕ) → a < 2 ^ 64 → b < 2 ^ 64 → to_le_bytes w64 a ≡ to_le_bytes w64 b → a ≡ b
@@ -40,7 +40,7 @@ pub record ReadsHead (bytes : List ℕ) (h : Head) : Type 0 where
   pub small_body : h.body < 2 ^ 64
   pub small_puts : h.puts < 2 ^ 64
 
-pub one_head : (bytes : List ℕ) (g h : Head) → IsHead bytes g → ReadsHead bytes h → h ≡ g
+pub one_head : (bytes : List ℕ) (g h : Head) → IsHeaderOf bytes g → ReadsHead bytes h → h ≡ g
 unfolding header_bytes
 one_head bytes g h is reads =
     let number : h.number ≡ g.number = same_number _ _ reads.small_number is.is.narrow_number (reads.number ∙ ap (λ b. slice_range b 8 (8 + 8)) is.spelled) in

@@ -4,6 +4,6 @@ use Rattle.pdb_model.specs.Records.{IsHeader, header_bytes}
 use Rattle.pdb_record.specs.declared.heads.Head.{Head}
 
 -- these bytes are this header, and it keeps the rules
-pub record IsHead (bytes : List ℕ) (h : Head) : Type 0 where
+pub record IsHeaderOf (bytes : List ℕ) (h : Head) : Type 0 where
   pub spelled : bytes ≡ header_bytes h.number h.commits h.body h.puts
   pub is : IsHeader h.number h.commits h.body h.puts

@@ -1,6 +1,6 @@
 ghost use Rattle.std.specs.Prelude.{◌≡◌, ◌≤◌, ◌<◌, ◌^◌, ℕ, IfSome, Some};
 ghost use Rattle.pdb_model.specs.Records.{IsHeader, header_bytes};
-ghost use Rattle.pdb_record.specs.Heads.{IsHead};
+ghost use Rattle.pdb_record.specs.Heads.{IsHeaderOf};
 ghost use Rattle.pdb_record.specs.declared.heads.Head.{Head};
 
 use crate::layout::{add, number_at, seal};
@@ -40,8 +40,8 @@ pub(crate) fn header_bytes(h: &Head) -> [u8; 48]
 /// What a record's header says. None exactly where its 48 bytes break a rule: the first bytes, the zeros, the checksum,
 /// a number from 1 on, a body of at most 2^62 bytes.
 pub fn header(bytes: &[u8; 48]) -> Option<Head>
-    ensures whole { (h : Head) → IsHead bytes.now h → result ≡ Some h }
-    ensures only { IfSome result (λ h. IsHead bytes.now h) }
+    ensures whole { (h : Head) → IsHeaderOf bytes.now h → result ≡ Some h }
+    ensures only { IfSome result (λ h. IsHeaderOf bytes.now h) }
 {
     let h = Head {
         number: number_at(bytes, 8),

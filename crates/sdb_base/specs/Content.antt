@@ -51,8 +51,8 @@ meta_from key now [] = now
 meta_from key now (op ∷ ops) = meta_from key (meta_after key now op) ops
 
 -- what the columns hold under a key after these operations
-abbrev pub node_of : List Op → List ℕ → Option Counted
-node_of ops key = node_from key None ops
+abbrev pub node_under : List Op → List ℕ → Option Counted
+node_under ops key = node_from key None ops
 
-abbrev pub meta_of : List Op → List ℕ → Option Counted
-meta_of ops key = meta_from key None ops
+abbrev pub meta_under : List Op → List ℕ → Option Counted
+meta_under ops key = meta_from key None ops

@@ -1,6 +1,6 @@
 ghost use Rattle.std.specs.Prelude.{◌≡◌, ◌≤◌, ◌+◌, ◌++◌, ◌∷◌, [], ℕ, List, length, All, Option, Some, None, OnOk, OnErr, IfOk, IfErr};
 ghost use Rattle.sdb_io.specs.Faults.{CountsFault};
-ghost use Rattle.sdb_base.specs.Content.{meta_of, node_of};
+ghost use Rattle.sdb_base.specs.Content.{meta_under, node_under};
 ghost use Rattle.sdb_base.specs.Keeping.{Commits, HasShortKey, IsCause, IsCommitCause, IsMetaAnswer, IsNodeAnswer, disk_failed, most_in_plain_key, operations};
 ghost use Rattle.sdb_base.specs.Pipeline.{Pipeline, with_commit};
 ghost use Rattle.sdb_base.specs.declared.numbers.KeeperCall.TheVariants as calls;
@@ -50,7 +50,7 @@ pub trait Keeper {
     /// The bytes of a node. A node without references may still be there.
     fn node(&mut self, key: &NodeHash) -> Result<Option<Bytes>, KeepFault>
         ensures answer { (commits : Commits) → stands self.old commits → clear calls.Node commits key.now.0
-            → IfOk result (λ r. IsNodeAnswer commits key.now.0 (node_of (operations commits) key.now.0) r) }
+            → IfOk result (λ r. IsNodeAnswer commits key.now.0 (node_under (operations commits) key.now.0) r) }
         ensures stands { (commits : Commits) → stands self.old commits → stands self.new commits }
         ensures later { (commits : Commits) → stands self.old commits → later self.old commits self.new commits }
         ensures after { comes_after self.old self.new }
@@ -64,7 +64,7 @@ pub trait Keeper {
     fn meta(&mut self, key: &[u8]) -> Result<Option<Bytes>, KeepFault>
         requires { length key.now ≤ most_in_plain_key }
         ensures answer { (commits : Commits) → stands self.old commits → clear calls.Meta commits key.now
-            → IfOk result (IsMetaAnswer (meta_of (operations commits) key.now)) }
+            → IfOk result (IsMetaAnswer (meta_under (operations commits) key.now)) }
         ensures stands { (commits : Commits) → stands self.old commits → stands self.new commits }
         ensures later { (commits : Commits) → stands self.old commits → later self.old commits self.new commits }
         ensures after { comes_after self.old self.new }

@@ -1,23 +1,23 @@
 ghost use Rattle.std.specs.Prelude.{◌≡◌, ◌∷◌, ◌++◌, ◌-◌, ◌^◌, [], ℕ, List, Option, Some, None};
-ghost use Rattle.sdb_base.specs.Content.{Counted, meta_from, meta_of, node_from, node_of, with_reference, without_reference};
+ghost use Rattle.sdb_base.specs.Content.{Counted, meta_from, meta_under, node_from, node_under, with_reference, without_reference};
 ghost use Rattle.sdb_base.specs.declared.op.Op.{Op};
 ghost use Rattle.sdb_base.specs.declared.op.Op.TheVariants.{AddRef, DropRef, Put, Erase};
 
 /// What a column holds under a key, computed: references are counted and the first bytes stay, the last one
 /// removes the key, the last count stays, and the other column isn't touched.
 pub fn known_contents()
-    ensures counted { node_of (AddRef (record { 0 = 7 ∷ [] }) (1 ∷ []) ∷ (AddRef (record { 0 = 7 ∷ [] }) (2 ∷ []) ∷ [])) (7 ∷ [])
+    ensures counted { node_under (AddRef (record { 0 = 7 ∷ [] }) (1 ∷ []) ∷ (AddRef (record { 0 = 7 ∷ [] }) (2 ∷ []) ∷ [])) (7 ∷ [])
         ≡ Some (record { count = 2; bytes = 1 ∷ [] }) }
-    ensures dropped { node_of (AddRef (record { 0 = 7 ∷ [] }) (1 ∷ []) ∷ (AddRef (record { 0 = 7 ∷ [] }) (1 ∷ []) ∷ (DropRef (record { 0 = 7 ∷ [] }) ∷ []))) (7 ∷ [])
+    ensures dropped { node_under (AddRef (record { 0 = 7 ∷ [] }) (1 ∷ []) ∷ (AddRef (record { 0 = 7 ∷ [] }) (1 ∷ []) ∷ (DropRef (record { 0 = 7 ∷ [] }) ∷ []))) (7 ∷ [])
         ≡ Some (record { count = 1; bytes = 1 ∷ [] }) }
-    ensures gone { (node_of (AddRef (record { 0 = 7 ∷ [] }) (1 ∷ []) ∷ (DropRef (record { 0 = 7 ∷ [] }) ∷ [])) (7 ∷ []) ≡ None)
-        × (node_of (DropRef (record { 0 = 7 ∷ [] }) ∷ []) (7 ∷ []) ≡ None) }
+    ensures gone { (node_under (AddRef (record { 0 = 7 ∷ [] }) (1 ∷ []) ∷ (DropRef (record { 0 = 7 ∷ [] }) ∷ [])) (7 ∷ []) ≡ None)
+        × (node_under (DropRef (record { 0 = 7 ∷ [] }) ∷ []) (7 ∷ []) ≡ None) }
     ensures last { (with_reference [] (Some (record { count = 2 ^ 64 - 1; bytes = 1 ∷ [] })) ≡ Some (record { count = 2 ^ 64 - 1; bytes = 1 ∷ [] }))
         × (without_reference (Some (record { count = 2 ^ 64 - 1; bytes = 1 ∷ [] })) ≡ Some (record { count = 2 ^ 64 - 1; bytes = 1 ∷ [] }))
         × (with_reference [] (Some (record { count = 2 ^ 64 - 2; bytes = 1 ∷ [] })) ≡ Some (record { count = 2 ^ 64 - 1; bytes = 1 ∷ [] })) }
-    ensures plain { (meta_of (Put (7 ∷ []) (1 ∷ []) ∷ (Put (7 ∷ []) (2 ∷ []) ∷ (Put (8 ∷ []) [] ∷ []))) (7 ∷ []) ≡ Some (record { count = 1; bytes = 2 ∷ [] }))
-        × (meta_of (Put (7 ∷ []) (1 ∷ []) ∷ (Erase (7 ∷ []) ∷ [])) (7 ∷ []) ≡ None) }
-    ensures apart { (node_of (Put (7 ∷ []) (1 ∷ []) ∷ []) (7 ∷ []) ≡ None) × (meta_of (AddRef (record { 0 = 7 ∷ [] }) (1 ∷ []) ∷ []) (7 ∷ []) ≡ None) }
+    ensures plain { (meta_under (Put (7 ∷ []) (1 ∷ []) ∷ (Put (7 ∷ []) (2 ∷ []) ∷ (Put (8 ∷ []) [] ∷ []))) (7 ∷ []) ≡ Some (record { count = 1; bytes = 2 ∷ [] }))
+        × (meta_under (Put (7 ∷ []) (1 ∷ []) ∷ (Erase (7 ∷ []) ∷ [])) (7 ∷ []) ≡ None) }
+    ensures apart { (node_under (Put (7 ∷ []) (1 ∷ []) ∷ []) (7 ∷ []) ≡ None) × (meta_under (AddRef (record { 0 = 7 ∷ [] }) (1 ∷ []) ∷ []) (7 ∷ []) ≡ None) }
 {}
 
 /// Operations after others change what the others left.

@@ -1,7 +1,7 @@
 use Rattle.std.proofs.Common.{◌≡◌, true, Some, ℕ, List, refl, sym, ap, ◌∙◌, arith}
 use Rattle.std.proofs.lemmas.Slice.Eq.{bytes_eq-Decides}
 use Rattle.pdb_model.specs.Records.{header_bytes}
-use Rattle.pdb_record.specs.Heads.{IsHead}
+use Rattle.pdb_record.specs.Heads.{IsHeaderOf}
 use Rattle.pdb_record.specs.declared.heads.Head.{Head}
 use Rattle.pdb_record.proofs.Fields.{ReadsHead, one_head}
 use Rattle.pdb_record.proofs.heads.header.Goals.{else-h-ge1-via-then-h-ge1+then-h-le-MOST_IN_BODY+else-eq, else-h-ge1-via-then-h-ge1+else-h-le-MOST_IN_BODY, else-h-ge1-via-else-h-ge1}
