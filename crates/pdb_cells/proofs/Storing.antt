@@ -6,7 +6,7 @@ use Rattle.std.specs.Map.{lookup}
 use Rattle.std.specs.Option.{unwrap_or}
 use Rattle.std.proofs.lemmas.Option.{same_Some}
 use Rattle.pdb_cells.specs.Content.{put_cell}
-use Rattle.pdb_cells.specs.Memory.{held, zeros_of}
+use Rattle.pdb_cells.specs.Memory.{cells_in, zeros_of}
 use Rattle.pdb_cells.specs.Names.{name_cmp}
 use Rattle.pdb_cells.specs.Puts.{same_cell}
 use Rattle.pdb_cells.specs.Sizes.{size_of}
@@ -16,14 +16,14 @@ use Rattle.pdb_cells.proofs.Laying.{chosen}
 use Rattle.pdb_cells.proofs.Names.{found_after, same_cell-true}
 
 cell_set : (a b : BTreeMap CellName (List ℕ)) (name : CellName) (bytes : List ℕ) → Updates name_cmp a b name (Some bytes)
-    → (q : CellName) → held b q.file q.index ≡ put_cell name.file name.index bytes (held a) q.file q.index
+    → (q : CellName) → cells_in b q.file q.index ≡ put_cell name.file name.index bytes (cells_in a) q.file q.index
 cell_set a b name bytes after q =
     ap (λ o. unwrap_or o (zeros_of q.file)) (found_after a b name (Some bytes) after q)
     ∙ chosen (same_cell name q) bytes (get name_cmp a q) (zeros_of q.file)
 
 -- the cell that is set has its bytes, and no other changes
 pub cells_set : (a b : BTreeMap CellName (List ℕ)) (name : CellName) (bytes : List ℕ) → Updates name_cmp a b name (Some bytes)
-    → held b ≡ put_cell name.file name.index bytes (held a)
+    → cells_in b ≡ put_cell name.file name.index bytes (cells_in a)
 cells_set a b name bytes after = fun_ext (λ file. fun_ext (λ index. cell_set a b name bytes after (record { file = file; index = index })))
 
 sized_at : (t : Bool) (name q : CellName) (bytes b : List ℕ) (o : Option (List ℕ)) → (t ≡ true → name ≡ q)
@@ -60,6 +60,6 @@ found_length cells name bytes n sized e size = same_Some n (length bytes) (sym s
 
 -- what is not there reads as zeros
 pub absent_zeros : (cells : BTreeMap CellName (List ℕ)) (name : CellName) (n : ℕ) → None ≡ get name_cmp cells name → size_of name.file ≡ Some n
-    → replicate n 0 ≡ held cells name.file name.index
+    → replicate n 0 ≡ cells_in cells name.file name.index
 absent_zeros cells name n e size =
     ap (λ o. replicate (unwrap_or o 0) 0) (sym size) ∙ ap (λ o. unwrap_or o (zeros_of name.file)) e

@@ -13,12 +13,12 @@ abbrev pub zeros_of : ℕ → List ℕ
 zeros_of file = replicate (unwrap_or (size_of file) 0) 0
 
 -- the bytes of each cell of a map, zeros where it has none
-abbrev pub held : BTreeMap CellName (List ℕ) → Content
-held cells file index = unwrap_or (get name_cmp cells (record { file = file; index = index })) (zeros_of file)
+abbrev pub cells_in : BTreeMap CellName (List ℕ) → Content
+cells_in cells file index = unwrap_or (get name_cmp cells (record { file = file; index = index })) (zeros_of file)
 
 -- the bytes of each cell
 abbrev pub cells_of : MapCells → Content
-cells_of m = held m.cells
+cells_of m = cells_in m.cells
 
 -- the calls of `cell` that are to fail, counted from 0
 abbrev pub calls_to_fail : MapCells → List ℕ
