@@ -7,8 +7,10 @@ use Rattle.std.proofs.lemmas.List.{append-nil}
 use Rattle.std.proofs.lemmas.List.Elements.{filter_map-append}
 use Rattle.pdb_disk.specs.Files.{FileBytes, FileState, Files, Image, Step, done}
 use Rattle.pdb_memdisk.specs.Contents.{all_settled}
-use Rattle.pdb_memdisk.specs.Record.{step_of, acted, applied, played, replayed}
-use Rattle.pdb_memdisk.specs.Images.{Placed, is_sync, syncs, placed, pending, steps_on, kept_step, keeps_of}
+use Rattle.pdb_memdisk.specs.Record.{step_of, acted, played, replayed}
+use Rattle.pdb_memdisk.specs.inner.Steps.{applied}
+use Rattle.pdb_memdisk.specs.Images.{Placed, is_sync, syncs, placed, pending, steps_on, keeps_of}
+use Rattle.pdb_memdisk.specs.inner.Steps.{kept_step}
 use Rattle.pdb_memdisk.specs.declared.record.Call.{Call}
 use Rattle.pdb_memdisk.specs.declared.record.Action.{Action}
 use Rattle.pdb_memdisk.specs.declared.record.Action.TheVariants.{Changes, Syncs}

@@ -6,7 +6,8 @@ use Rattle.std.proofs.lemmas.List.{append-nil}
 use Rattle.std.proofs.lemmas.List.Elements.{All-head, All-tail, All-push, All-weaker, filter-append}
 use Rattle.std.proofs.lemmas.Bool.Decides.{nat_tests}
 use Rattle.pdb_disk.specs.Files.{Files, Image, Elapses, done, reads_of}
-use Rattle.pdb_memdisk.specs.Record.{step_of, acted, played, replayed, until, applied}
+use Rattle.pdb_memdisk.specs.Record.{step_of, acted, played, replayed, until}
+use Rattle.pdb_memdisk.specs.inner.Steps.{applied}
 use Rattle.pdb_memdisk.specs.declared.record.Call.{Call}
 use Rattle.pdb_memdisk.specs.declared.record.Action.{Action}
 use Rattle.pdb_memdisk.specs.declared.record.Action.TheVariants.{Changes, Syncs}

@@ -3,10 +3,8 @@ use Rattle.std.specs.Prelude.{ℕ, ◌/◌, ◌==◌, ◌&&◌, Bool, true, fals
 use Rattle.std.specs.List.{list_any, filter_map}
 use Rattle.pdb_disk.specs.Files.{Files, Image, Step}
 use Rattle.pdb_disk.specs.Files.{Step as step}
-use Rattle.pdb_memdisk.specs.Contents.{image_of, changed}
-use Rattle.pdb_memdisk.specs.Record.{step_of, applied}
-use denote.Bor.{Bor}
-use Rattle.pdb_memdisk.specs.declared.record.Change.{Change}
+use Rattle.pdb_memdisk.specs.Contents.{changed}
+use Rattle.pdb_memdisk.specs.Record.{step_of}
 use Rattle.pdb_memdisk.specs.declared.record.Call.{Call}
 use Rattle.pdb_memdisk.specs.declared.record.Action.{Action}
 use Rattle.pdb_memdisk.specs.declared.record.Action.TheVariants.{Changes, Syncs}
@@ -69,15 +67,3 @@ listed x ps = map (laid x) (first_n ps) ++ (map (laid x) (first_n_and_half ps) +
 -- what all files kept
 abbrev pub keeps_of : Files → Image
 keeps_of fs = λ j. (fs j).kept
-
--- all files after a call, if it was done and one of the later calls synced its file
-abbrev pub kept_step : Image → Call → List Call → Image
-kept_step x c later = if list_any (syncs c.file) later && c.done then applied x c.file c.action else x
-
--- changes with their files, as steps
-abbrev pub placed_all : List (ℕ × Bor Change) → List Placed
-placed_all cs = map (λ c. (c.0, step_of c.1.now)) cs
-
--- what sets of files read as
-abbrev pub seen_in : List (List (List ℕ)) → List Image
-seen_in sets = map image_of sets

@@ -1,5 +1,5 @@
 -- What a contract sees of a disk in memory.
-use Rattle.std.specs.Prelude.{◌≡◌, ◌≤◌, ◌⊎◌, ◌-◌, ◌^◌, ℕ, List, [], IsTrue}
+use Rattle.std.specs.Prelude.{◌≡◌, ◌≤◌, ◌⊎◌, ◌-◌, ◌^◌, ◌↔◌, ℕ, List, [], IsTrue}
 use Rattle.std.specs.List.{Contains}
 use Rattle.pdb_disk.specs.Files.{Files, Image, reads_of}
 use Rattle.pdb_memdisk.specs.Contents.{image_of, all_settled}
@@ -77,7 +77,7 @@ pub record SameState (old new : MemDisk) : Type 0 where
   pub reads : reads_by new ≡ reads_by old
   pub faults : failed_by new ≡ failed_by old
   pub tried : tried_by new ≡ tried_by old
-  pub complete : IsComplete old → IsComplete new
+  pub complete : IsComplete new ↔ IsComplete old
 
 -- every file reads as before
 abbrev pub SameReads : Files → Files → Type 0

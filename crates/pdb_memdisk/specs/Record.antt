@@ -1,9 +1,7 @@
 -- What a record of calls comes to.
-use Rattle.std.specs.Prelude.{◌≡◌, ℕ, ◌==◌, nat_le, Bool, Result, Ok, List, [], ◌∷◌, ◌++◌, if◌then◌else◌}
+use Rattle.std.specs.Prelude.{ℕ, ◌==◌, nat_le, Bool, List, [], ◌∷◌, ◌++◌, if◌then◌else◌}
 use Rattle.std.specs.List.{filter}
-use Rattle.std.specs.declared.alloc.AllocError.{AllocError}
-use Rattle.pdb_disk.specs.Files.{FileState, Files, Image, Step, done, settled}
-use Rattle.pdb_memdisk.specs.Contents.{changed}
+use Rattle.pdb_disk.specs.Files.{FileState, Files, Step, done, settled}
 use Rattle.pdb_disk.specs.Files.{Step as step}
 use Rattle.pdb_memdisk.specs.declared.record.Call.{Call}
 use Rattle.pdb_memdisk.specs.declared.record.Action.{Action}
@@ -15,11 +13,6 @@ use Rattle.pdb_memdisk.specs.declared.record.Change.TheVariants.{Write, Cut}
 abbrev pub step_of : Change → Step
 step_of (Write at bytes) = step.Write at bytes.items
 step_of Cut = step.Cut
-
--- the action makes this step
-abbrev pub Makes : Action → Step → Type 0
-Makes (Changes c) s = step_of c ≡ s
-Makes Syncs s = ⊥
 
 -- a file after a step that was begun, and maybe done
 abbrev pub begun : FileState → Step → Bool → FileState
@@ -43,15 +36,6 @@ abbrev pub replayed : Files → List Call → Files
 replayed fs [] = fs
 replayed fs (c ∷ cs) = replayed (played fs c.file c.action c.done) cs
 
--- what all files read as after an action on one that was done
-abbrev pub applied : Image → ℕ → Action → Image
-applied x file (Changes c) = changed x file (step_of c)
-applied x file Syncs = x
-
 -- the calls with a stamp of at most t
 abbrev pub until : ℕ → List Call → List Call
 until t cs = filter (λ c. nat_le c.stamp t) cs
-
--- these files become those by the action, for which memory was found; it was done or failed
-abbrev pub Does : ℕ → Result Action AllocError → Bool → Files → Files → Type 0
-Does file action ok old new = (a : Action) × (action ≡ Ok a) × (new ≡ played old file a ok)

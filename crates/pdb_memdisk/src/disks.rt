@@ -1,6 +1,6 @@
 ghost use Rattle.std.specs.Prelude.{◌≡◌, ◌++◌, ◌∷◌, [], map, IfOk, MatchOption};
 ghost use Rattle.std.specs.List.{All};
-ghost use Rattle.pdb_memdisk.specs.Images.{seen_in};
+ghost use Rattle.pdb_memdisk.specs.inner.Steps.{seen_in};
 
 use crate::contents::FileSet;
 use crate::memory::MemDisk;

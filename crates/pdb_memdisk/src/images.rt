@@ -2,7 +2,8 @@ ghost use Rattle.std.specs.Prelude.{◌≡◌, ◌++◌, ◌∷◌, [], map, IfO
 ghost use Rattle.std.specs.List.{list_any};
 ghost use Rattle.pdb_memdisk.specs.Contents.{image_of, all_settled};
 ghost use Rattle.pdb_memdisk.specs.Record.{replayed, step_of};
-ghost use Rattle.pdb_memdisk.specs.Images.{pending, syncs, laid, half, first_n, first_n_and_half, all_but_one, listed, keeps_of, kept_step, placed_all, seen_in};
+ghost use Rattle.pdb_memdisk.specs.Images.{pending, syncs, laid, half, first_n, first_n_and_half, all_but_one, listed, keeps_of};
+ghost use Rattle.pdb_memdisk.specs.inner.Steps.{kept_step, placed_all, seen_in};
 
 use crate::contents::FileSet;
 use crate::record::{Action, Call, Change};

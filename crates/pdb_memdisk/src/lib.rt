@@ -9,7 +9,7 @@ mod memory;
 mod record;
 
 pub use disks::Disks;
-pub use laws::pending_steps_are_since_the_last_sync;
+pub use laws::{known_outcomes, pending_steps_are_since_the_last_sync};
 pub use memory::MemDisk;
 
 #[cfg(test)]

@@ -5,8 +5,8 @@ ghost use Rattle.pdb_disk.specs.Files.{Elapses, Begins, MayBegin, Settles, Stand
 ghost use Rattle.pdb_memdisk.specs.Images.{keeps_of, listed};
 ghost use Rattle.pdb_disk.specs.Files.{Step as step};
 ghost use Rattle.pdb_memdisk.specs.Contents.{image_of, all_settled};
-ghost use Rattle.pdb_memdisk.specs.Record.{applied};
-ghost use Rattle.pdb_memdisk.specs.Record.{replayed, Does};
+ghost use Rattle.pdb_memdisk.specs.Record.{replayed};
+ghost use Rattle.pdb_memdisk.specs.inner.Steps.{applied, Does};
 
 use crate::contents::FileSet;
 use crate::disks::Disks;
@@ -186,6 +186,7 @@ impl MemDisk {
         ensures complete { IsComplete self.new → IsComplete self.old }
         ensures found { IsTrue result → IsComplete self.old → IsComplete self.new }
         ensures planned { IsToFail self.old → IsFalse result }
+        ensures only { IsFalse result → IsComplete self.new → IsToFail self.old ⊎ (clock_of self.old ≡ 2 ^ 64 - 1) }
         ensures next { tried_by self.new ≡ one_more (tried_by self.old) }
         ensures plan { SamePlan self.old self.new }
         ensures counted { CountsFault (not result) (failed_by self.old) (failed_by self.new) }
@@ -224,7 +225,7 @@ impl MemDisk {
 
 impl Disk for MemDisk {
     ghost use Rattle.pdb_memdisk.specs.Memory.{clock_of, reads_by, failed_by, past_of, now_of, tried_by, IsToFail, IsComplete, SamePlan, SameReads};
-    ghost use Rattle.pdb_memdisk.specs.Laws.{settled_image, replayed_image};
+    ghost use Rattle.pdb_memdisk.specs.inner.Laws.{settled_image, replayed_image};
     ghost use Rattle.pdb_memdisk.specs.Record.{until};
 
     ghost tells = { λ d. Unit {0} };
@@ -279,6 +280,7 @@ impl Disk for MemDisk {
         ensures counted { CountsFault (is_err result) (failed_by self.old) (failed_by self.new) }
         ensures reads { reads_by self.new ≡ reads_by self.old }
         ensures fails { IsToFail self.old → IsErr result }
+        ensures only { OnErr result (IsComplete self.new → IsToFail self.old ⊎ (clock_of self.old ≡ 2 ^ 64 - 1)) }
         ensures unmoved { OnErr result (SameReads (now_of self.old) (now_of self.new)) }
         ensures pending { IsComplete self.new → clock_of self.old < 2 ^ 64 - 1
             → OnErr result (Begins file (step.Write at bytes.now) (now_of self.old) (now_of self.new)) }
@@ -306,6 +308,7 @@ impl Disk for MemDisk {
         ensures counted { CountsFault (is_err result) (failed_by self.old) (failed_by self.new) }
         ensures reads { reads_by self.new ≡ reads_by self.old }
         ensures fails { IsToFail self.old → IsErr result }
+        ensures only { OnErr result (IsComplete self.new → IsToFail self.old ⊎ (clock_of self.old ≡ 2 ^ 64 - 1)) }
         ensures unmoved { OnErr result (SameReads (now_of self.old) (now_of self.new)) }
         ensures pending { IsComplete self.new → clock_of self.old < 2 ^ 64 - 1
             → OnErr result (Begins file step.Cut (now_of self.old) (now_of self.new)) }
@@ -331,6 +334,7 @@ impl Disk for MemDisk {
         ensures counted { CountsFault (is_err result) (failed_by self.old) (failed_by self.new) }
         ensures reads { reads_by self.new ≡ reads_by self.old }
         ensures fails { IsToFail self.old → IsErr result }
+        ensures only { OnErr result (IsComplete self.new → IsToFail self.old ⊎ (clock_of self.old ≡ 2 ^ 64 - 1)) }
         ensures complete { IsComplete self.new → IsComplete self.old }
         ensures found { OnOk result (IsComplete self.old → IsComplete self.new) }
         ensures next { tried_by self.new ≡ one_more (tried_by self.old) }

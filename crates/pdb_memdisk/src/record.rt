@@ -19,7 +19,7 @@ pub enum Action {
 }
 
 impl Action {
-    ghost use Rattle.pdb_memdisk.specs.Record.{Makes};
+    ghost use Rattle.pdb_memdisk.specs.inner.Steps.{Makes};
 
     /// A write of a copy of these bytes.
     pub fn write(alloc: Global, at: u64, bytes: &[u8]) -> Result<Action, OutOfMemory>

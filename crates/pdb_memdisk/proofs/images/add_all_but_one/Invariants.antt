@@ -1,6 +1,7 @@
 use Rattle.std.proofs.Common.{◌≡◌, ◌++◌, map, drop}
 use Rattle.pdb_memdisk.specs.Contents.{image_of}
-use Rattle.pdb_memdisk.specs.Images.{laid, all_but_one, placed_all, seen_in}
+use Rattle.pdb_memdisk.specs.Images.{laid, all_but_one}
+use Rattle.pdb_memdisk.specs.inner.Steps.{placed_all, seen_in}
 use Rattle.pdb_memdisk.proofs.images.add_all_but_one.Given as goal
 
 abbrev pub invariant-loop-n : goal.invariant-loop-n

@@ -3,7 +3,8 @@ use Rattle.std.proofs.lemmas.List.{map-append}
 use Rattle.pdb_disk.specs.Files.{Image}
 use Rattle.pdb_memdisk.specs.Contents.{image_of, changed}
 use Rattle.pdb_memdisk.specs.Record.{step_of}
-use Rattle.pdb_memdisk.specs.Images.{Placed, laid, first_n, placed_all, seen_in}
+use Rattle.pdb_memdisk.specs.Images.{Placed, laid, first_n}
+use Rattle.pdb_memdisk.specs.inner.Steps.{placed_all, seen_in}
 use Rattle.pdb_memdisk.proofs.Laid.{drop_next, first_n_more}
 use Rattle.pdb_memdisk.proofs.images.add_first_n.Goals as goal
 

@@ -2,7 +2,8 @@ use Rattle.std.proofs.Common.{rules, ◌≡◌, ◌+◌, List, [], ◌∷◌, �
 use Rattle.pdb_disk.specs.Files.{Image}
 use Rattle.pdb_memdisk.specs.Contents.{image_of, changed}
 use Rattle.pdb_memdisk.specs.Record.{step_of}
-use Rattle.pdb_memdisk.specs.Images.{Placed, laid, half, first_n_and_half, placed_all, seen_in}
+use Rattle.pdb_memdisk.specs.Images.{Placed, laid, half, first_n_and_half}
+use Rattle.pdb_memdisk.specs.inner.Steps.{placed_all, seen_in}
 use Rattle.pdb_memdisk.proofs.Laid.{drop_next, half_more}
 use Rattle.pdb_memdisk.proofs.images.add_first_n_and_half.Goals as goal
 

@@ -1,6 +1,7 @@
 use Rattle.std.proofs.Common.{◌≡◌, ◌++◌, map, drop}
 use Rattle.pdb_memdisk.specs.Contents.{image_of}
-use Rattle.pdb_memdisk.specs.Images.{laid, first_n_and_half, placed_all, seen_in}
+use Rattle.pdb_memdisk.specs.Images.{laid, first_n_and_half}
+use Rattle.pdb_memdisk.specs.inner.Steps.{placed_all, seen_in}
 use Rattle.pdb_memdisk.proofs.images.add_first_n_and_half.Given as goal
 
 abbrev pub invariant-loop-change : goal.invariant-loop-change

@@ -1,6 +1,7 @@
 use Rattle.std.proofs.Common.{◌≡◌, drop}
 use Rattle.pdb_memdisk.specs.Contents.{image_of}
-use Rattle.pdb_memdisk.specs.Images.{laid, placed_all}
+use Rattle.pdb_memdisk.specs.Images.{laid}
+use Rattle.pdb_memdisk.specs.inner.Steps.{placed_all}
 use Rattle.pdb_memdisk.proofs.images.apply_all.Given as goal
 
 abbrev pub invariant-loop-change : goal.invariant-loop-change

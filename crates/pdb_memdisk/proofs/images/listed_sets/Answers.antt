@@ -1,7 +1,8 @@
 use Rattle.std.proofs.Common.{rules, ◌≡◌, List, ◌++◌, map, append_assoc, ap, ◌∙◌}
 use Rattle.pdb_disk.specs.Files.{Image}
 use Rattle.pdb_memdisk.specs.Contents.{image_of}
-use Rattle.pdb_memdisk.specs.Images.{laid, first_n, first_n_and_half, all_but_one, placed_all, seen_in}
+use Rattle.pdb_memdisk.specs.Images.{laid, first_n, first_n_and_half, all_but_one}
+use Rattle.pdb_memdisk.specs.inner.Steps.{placed_all, seen_in}
 use Rattle.pdb_memdisk.proofs.images.listed_sets.Goals as goal
 
 pub returns : goal.returns

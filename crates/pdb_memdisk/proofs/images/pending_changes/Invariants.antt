@@ -1,5 +1,6 @@
 use Rattle.std.proofs.Common.{◌≡◌, ◌++◌, drop}
-use Rattle.pdb_memdisk.specs.Images.{pending, placed_all}
+use Rattle.pdb_memdisk.specs.Images.{pending}
+use Rattle.pdb_memdisk.specs.inner.Steps.{placed_all}
 use Rattle.pdb_memdisk.proofs.images.pending_changes.Given as goal
 
 abbrev pub invariant-loop-n : goal.invariant-loop-n

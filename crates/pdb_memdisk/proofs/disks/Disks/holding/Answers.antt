@@ -4,7 +4,7 @@ use Rattle.std.proofs.lemmas.List.{map-append}
 use Rattle.std.proofs.lemmas.List.Elements.{All-push}
 use Rattle.pdb_disk.specs.Files.{Image}
 use Rattle.pdb_memdisk.specs.Contents.{image_of}
-use Rattle.pdb_memdisk.specs.Images.{seen_in}
+use Rattle.pdb_memdisk.specs.inner.Steps.{seen_in}
 use Rattle.pdb_memdisk.specs.Memory.{IsFresh, image_now}
 use Rattle.pdb_memdisk.specs.declared.memory.MemDisk.{MemDisk}
 use Rattle.pdb_memdisk.proofs.disks.Disks.holding.Goals as goal

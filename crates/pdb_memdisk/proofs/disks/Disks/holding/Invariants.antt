@@ -1,6 +1,6 @@
 use Rattle.std.proofs.Common.{◌≡◌, map}
 use Rattle.std.specs.List.{All}
-use Rattle.pdb_memdisk.specs.Images.{seen_in}
+use Rattle.pdb_memdisk.specs.inner.Steps.{seen_in}
 use Rattle.pdb_memdisk.specs.Memory.{IsFresh, image_now}
 use Rattle.pdb_memdisk.proofs.disks.Disks.holding.Given as goal
 

@@ -4,7 +4,8 @@ use Rattle.std.proofs.lemmas.Result.{IfOk-weaker}
 use Rattle.pdb_disk.specs.Files.{Image, IsImage}
 use Rattle.pdb_memdisk.specs.Contents.{image_of, all_settled}
 use Rattle.pdb_memdisk.specs.Record.{replayed}
-use Rattle.pdb_memdisk.specs.Images.{Placed, listed, keeps_of, placed_all, seen_in}
+use Rattle.pdb_memdisk.specs.Images.{Placed, listed, keeps_of}
+use Rattle.pdb_memdisk.specs.inner.Steps.{placed_all, seen_in}
 use Rattle.pdb_memdisk.specs.Memory.{now_of, image_now, pending_of}
 use Rattle.pdb_memdisk.proofs.Now.{now_all, pending_now}
 use Rattle.pdb_memdisk.proofs.Members.{Each, each_all, listed_members}

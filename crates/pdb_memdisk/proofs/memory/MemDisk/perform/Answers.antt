@@ -1,7 +1,8 @@
 use Rattle.std.proofs.Common.{rules, ◌≡◌, ◌+◌, true, false, not, List, [], ◌∷◌, ◌++◌, if◌then◌else◌, inl, inr, refl, sym, ◌∙◌, ap, subst}
 use Rattle.pdb_disk.specs.Files.{reads_of}
 use Rattle.pdb_memdisk.specs.Contents.{image_of, all_settled}
-use Rattle.pdb_memdisk.specs.Record.{applied, replayed}
+use Rattle.pdb_memdisk.specs.Record.{replayed}
+use Rattle.pdb_memdisk.specs.inner.Steps.{applied}
 use Rattle.pdb_memdisk.specs.declared.record.Call.{Call}
 use Rattle.pdb_memdisk.proofs.Pasts.{plays_more, plays_same, stamped_more, tied_more, Stamped}
 use Rattle.pdb_memdisk.proofs.memory.MemDisk.perform.Goals as goal
