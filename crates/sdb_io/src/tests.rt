@@ -39,10 +39,12 @@ fn a_sink_keeps_what_it_gets(rt: HostRuntime) -> Result<(), Fail> {
         (b"e", Ok(()), 1, b"abe"),
         (b"", Err(SinkFault), 2, b"abe"),
         (b"fgh", Ok(()), 2, b"abefgh"),
+        (b"", Ok(()), 2, b"abefgh"),
     ] {
         assert_eq!(rt; sink.put(piece), want);
         assert_eq!(rt; sink.faults(), faults);
         assert_eq!(rt; sink.bytes(), got);
     }
+    assert_eq!(rt; sink.lengths(), [2, 1, 3, 0].as_slice());
     Ok(())
 }

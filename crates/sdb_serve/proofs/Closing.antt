@@ -1,11 +1,11 @@
 -- How a run is closed, and what a status then says of its input.
-use Rattle.std.proofs.Common.{◌≡◌, ◌≢◌, ℕ, ◌+◌, ◌-◌, ◌^◌, ◌≤◌, ◌<◌, Bool, true, false, arith, List, [], ◌∷◌, ◌++◌, length, min, refl, sym, ap, subst, ◌∙◌, inl, inr, Option, Some, append-nil}
+use Rattle.std.proofs.Common.{◌≡◌, ◌≢◌, ℕ, ◌+◌, ◌-◌, ◌^◌, ◌≤◌, ◌<◌, Bool, true, false, arith, List, [], ◌∷◌, ◌++◌, length, codes, min, refl, sym, ap, subst, ◌∙◌, inl, inr, Option, Some, append-nil}
 use Rattle.std.specs.Prelude.{◌⊎◌}
 use Rattle.std.proofs.lemmas.Bool.{cases_lt}
 use Rattle.sdb_io.specs.Faults.{CountsFault, Rose, one_more}
 use Rattle.sdb_io.specs.Output.{Gets, GetsPrefix, Output}
 use Rattle.sdb_serve.specs.Session.{first_session, play_lines}
-use Rattle.sdb_serve.specs.Runs.{IsFirstBad, IsRun, IsRunOf, IsScript, MayStop, Run, last_line}
+use Rattle.sdb_serve.specs.Runs.{FailsTwice, IsFirstBad, IsRun, IsRunOf, ended, IsScript, MayStop, Run, last_line}
 use Rattle.sdb_serve.specs.Statuses.{status_of}
 use Rattle.sdb_serve.specs.inner.Steps.{CountsWhere, HaltsAtSink, HaltsFor, IsAt, IsClosed, IsLastCause, Represents}
 use Rattle.sdb_serve.specs.declared.session.Session.{Session}
@@ -129,6 +129,38 @@ counts_once Source a b counts = (true, counts.0 refl)
 counts_once End a b counts = (false, counts.1 (λ e. cc))
 counts_once BadLine a b counts = (false, counts.1 (λ e. cc))
 counts_once Memory a b counts = (false, counts.1 (λ e. cc))
+
+first_piece : (x y : List ℕ) → ◌≡◌ {A = List (List ℕ)} (x ∷ []) (y ∷ []) → x ≡ y
+first_piece x y e = cc
+
+not_bad : Source ≡ BadLine → ⊥
+not_bad e = absurd cc
+
+-- where the sink failed at a last line, the source failed before only where that line is for it
+pub failed_twice : (cause last : Cause) (a b : ℕ) (input : List ℕ) (p : Session) (left : Option (List ℕ)) (old mid new : Output) (result : Status)
+    → CountsWhere (stops.Cause cause ≡ stops.Cause Source) a b → HaltsFor cause (at_start input) input p left old mid → IsLastCause cause last
+    → IsClosed last p.lines result mid new → result ≡ SinkFault → CountsFault false a b ⊎ FailsTwice input left old new
+failed_twice End last a b input p left old mid new result counts halts is closed e = inl (counts.1 (λ h. cc))
+failed_twice BadLine last a b input p left old mid new result counts halts is closed e = inl (counts.1 (λ h. cc))
+failed_twice Memory last a b input p left old mid new result counts halts is closed e = inl (counts.1 (λ h. cc))
+failed_twice Source last a b input p left old mid new result counts halts is closed e =
+    let same : last ≡ Source = elim is [
+      | inl l ↦ l
+      | inr l ↦ absurd (not_bad l.0)
+    ] in
+    elim closed [
+      | inl s ↦ absurd (never_sink last (sym s.0 ∙ e))
+      | inr s ↦
+          let line : ended (codes "stop 4") ≡ s.1 = first_piece (ended (codes "stop 4")) s.1 (ap (λ (c : Cause). last_line c p.lines) (sym same) ∙ s.2) in
+          let got : GetsPrefix old new halts.replies s.1 =
+          subst (λ (t : List (List ℕ)). GetsPrefix old new t s.1) (append-nil halts.replies) (prefix_then old mid new halts.replies [] s.1 halts.written s.3) in
+          inr (record {
+            at = halts.at;
+            run = halts.run;
+            may_stop = halts.may_stop;
+            written = rw (halts.added, line) got;
+          })
+    ]
 
 pub a_fault_rose : (a b : ℕ) → CountsFault true a b → Rose a b
 a_fault_rose a b e = elim (cases_lt a b) [

@@ -112,6 +112,13 @@ pub record IsRunOf (status : Status) (input : List ℕ) (left : Option (List ℕ
   pub stopped : ((cause : Cause) × (status ≡ status_of cause) × StopsFor cause left at old new)
       ⊎ ((status ≡ SinkFault) × IsCutShort left at old new)
 
+-- Two faults: a run of this input asked the source, which failed, and then the sink failed at the last line for that.
+pub record FailsTwice (input : List ℕ) (left : Option (List ℕ)) (old new : Output) : Type 0 where
+  pub at : Run
+  pub run : IsRun at input
+  pub may_stop : MayStop Source left at
+  pub written : GetsPrefix old new at.replies (ended (codes "stop 4"))
+
 -- every line of the input is answered, and the last one is ended
 abbrev pub IsScript : List ℕ → Type 0
 IsScript input = (r : Run) × IsRun r input × (r.more ≡ [])

@@ -1,7 +1,7 @@
 ghost use Rattle.std.specs.Prelude.{◌≡◌, ◌≢◌, ◌⊎◌, ◌↔◌, ◌<◌, ◌≤◌, ◌^◌, ℕ, Bool, true, false, List, [], ◌∷◌, Some, IsTrue, IfOk, codes};
 ghost use Rattle.sdb_io.specs.Faults.{CountsFault, Rose};
 ghost use Rattle.sdb_io.specs.Output.{Gets, GetsPrefix};
-ghost use Rattle.sdb_serve.specs.Runs.{IsFirstBad, IsRunOf, IsScript, last_line, script_words, usage_line};
+ghost use Rattle.sdb_serve.specs.Runs.{FailsTwice, IsFirstBad, IsRunOf, IsScript, last_line, script_words, usage_line};
 ghost use Rattle.sdb_serve.specs.Statuses.{status_of};
 ghost use Rattle.sdb_serve.specs.inner.Steps.{CountsWhere, IsClosed, IsLastCause};
 
@@ -76,6 +76,9 @@ fn run_script<S: Source, K: Sink>(alloc: Global, source: &mut S, sink: &mut K) -
     ensures source { result ≢ Status.SinkFault
         → CountsWhere (result ≡ Status.SourceFault) (S.fault_count source.old) (S.fault_count source.new) }
     ensures one_fault { (failed : Bool) × CountsFault failed (S.fault_count source.old) (S.fault_count source.new) }
+    ensures two_faults { (input : List ℕ) → S.left source.old ≡ Some input → result ≡ Status.SinkFault
+        → CountsFault false (S.fault_count source.old) (S.fault_count source.new)
+        ⊎ FailsTwice input (S.left source.new) (K.got sink.old) (K.got sink.new) }
     ensures sink { CountsWhere (result ≡ Status.SinkFault) (K.fault_count sink.old) (K.fault_count sink.new) }
     ensures not_usage { result ≡ Status.Usage → ⊥ }
 {
@@ -113,6 +116,9 @@ pub fn run<S: Source, K: Sink>(alloc: Global, words: &Words, source: &mut S, sin
         → CountsFault false (S.fault_count source.old) (S.fault_count source.new) }
     ensures no_sink_fault { result ≢ Status.SinkFault → CountsFault false (K.fault_count sink.old) (K.fault_count sink.new) }
     ensures one_fault { (failed : Bool) × CountsFault failed (S.fault_count source.old) (S.fault_count source.new) }
+    ensures two_faults { words.now ≡ script_words → (input : List ℕ) → S.left source.old ≡ Some input → result ≡ Status.SinkFault
+        → CountsFault false (S.fault_count source.old) (S.fault_count source.new)
+        ⊎ FailsTwice input (S.left source.new) (K.got sink.old) (K.got sink.new) }
 
     // Where no count rose, a script is answered whole, and any other input up to its first bad line, whose number the
     // last line then names, unless memory ran out.

@@ -1,4 +1,4 @@
-use Rattle.std.proofs.Common.{◌≡◌, ◌++◌, ◌∷◌, [], sym, ap, ap₂, ◌∙◌, length, List, ℕ}
+use Rattle.std.proofs.Common.{◌++◌, ◌∷◌, [], ap, ap₂, ◌∙◌, length, List, ℕ}
 use Rattle.sdb_io.specs.Memory.{pieces}
 use Rattle.sdb_io.proofs.Pieces.{one_more_piece}
 use Rattle.sdb_io.proofs.memory.MemSink.add.Goals as goal
