@@ -1,9 +1,9 @@
 -- How a run is closed, and what a status then says of its input.
-use Rattle.std.proofs.Common.{◌≡◌, ◌≢◌, ℕ, ◌+◌, ◌-◌, ◌^◌, ◌≤◌, ◌<◌, Bool, true, false, arith, List, [], ◌∷◌, ◌++◌, length, codes, min, refl, sym, ap, subst, ◌∙◌, inl, inr, Option, Some, append-nil}
+use Rattle.std.proofs.Common.{◌≡◌, ◌≢◌, ℕ, Bool, true, false, arith, List, [], ◌∷◌, codes, refl, sym, ap, subst, ◌∙◌, inl, inr, Option, append-nil}
 use Rattle.std.specs.Prelude.{◌⊎◌}
 use Rattle.std.proofs.lemmas.Bool.{cases_lt}
-use Rattle.sdb_io.specs.Faults.{CountsFault, Rose, one_more}
-use Rattle.sdb_io.specs.Output.{Gets, GetsPrefix, Output}
+use Rattle.sdb_io.specs.Faults.{CountsFault, Rose}
+use Rattle.sdb_io.specs.Output.{GetsPrefix, Output}
 use Rattle.sdb_serve.specs.Session.{first_session, play_lines}
 use Rattle.sdb_serve.specs.Runs.{FailsTwice, IsFirstBad, IsRun, IsRunOf, ended, IsScript, MayStop, Run, last_line}
 use Rattle.sdb_serve.specs.Statuses.{status_of}
@@ -11,7 +11,6 @@ use Rattle.sdb_serve.specs.inner.Steps.{CountsWhere, HaltsAtSink, HaltsFor, IsAt
 use Rattle.sdb_serve.specs.declared.session.Session.{Session}
 use Rattle.sdb_serve.specs.declared.cause.Cause.{Cause}
 use Rattle.sdb_serve.specs.declared.cause.Cause.TheVariants.{End, BadLine, Source, Memory}
-use Rattle.sdb_serve.specs.declared.cause.Stop.{Stop}
 use Rattle.sdb_serve.specs.declared.cause.Stop.TheVariants as stops
 use Rattle.sdb_serve.specs.declared.status.Status.{Status}
 use Rattle.sdb_serve.specs.declared.status.Status.TheVariants.{Done, Usage, Script, SourceFault, SinkFault, NoMemory}
@@ -28,11 +27,14 @@ cut_off input left old new halts = record {
   at = halts.at;
   run = halts.run;
   near = halts.near;
-  stopped = inr (refl, record {
-    line = halts.reply;
-    next = inl halts.next;
-    written = subst (λ (t : List (List ℕ)). GetsPrefix old new t halts.reply) (sym halts.added) halts.written;
-  });
+  stopped = inr (
+    refl,
+    record {
+      line = halts.reply;
+      next = inl halts.next;
+      written = subst (λ (t : List (List ℕ)). GetsPrefix old new t halts.reply) (sym halts.added) halts.written;
+    },
+  );
 }
 
 may_last : (cause last : Cause) (left : Option (List ℕ)) (r : Run) → IsLastCause cause last → MayStop cause left r → MayStop last left r
@@ -51,15 +53,22 @@ closes cause last input p left old mid new result halts is closed =
       run = halts.run;
       near = halts.near;
       stopped = elim closed [
-        | inl a ↦ inl (last, a.0, record {
-          may_stop = may;
-          written = rw (replies, halts.lines) (gets_then old mid new halts.replies (last_line last p.lines) halts.written a.1);
-        })
-        | inr b ↦ inr (b.0, record {
-          line = b.1;
-          next = inr (last, may, rw halts.lines b.2);
-          written = rw replies (subst (λ (t : List (List ℕ)). GetsPrefix old new t b.1) (append-nil halts.replies) (prefix_then old mid new halts.replies [] b.1 halts.written b.3));
-        })
+        | inl a ↦ inl (
+          last,
+          a.0,
+          record {
+            may_stop = may;
+            written = rw (replies, halts.lines) (gets_then old mid new halts.replies (last_line last p.lines) halts.written a.1);
+          },
+        )
+        | inr b ↦ inr (
+          b.0,
+          record {
+            line = b.1;
+            next = inr (last, may, rw halts.lines b.2);
+            written = rw replies (subst (λ (t : List (List ℕ)). GetsPrefix old new t b.1) (append-nil halts.replies) (prefix_then old mid new halts.replies [] b.1 halts.written b.3));
+          },
+        )
       ];
     }
 

@@ -9,8 +9,8 @@ use Rattle.sdb_script.specs.Grammar.{line_of, most_in_line}
 use Rattle.sdb_serve.proofs.Answering.{no_line}
 use Rattle.sdb_serve.proofs.Lines.{first_feed}
 use Rattle.sdb_serve.proofs.Running.{some_is}
-use Rattle.sdb_serve.specs.Runs.{HasNoLineFeed, IsBad, IsNear, MayStop, Run, Waits, most_taken}
-use Rattle.sdb_serve.specs.inner.Steps.{Halts, HaltsFor, PieceAnswered}
+use Rattle.sdb_serve.specs.Runs.{HasNoLineFeed, IsNear, MayStop, Run, Waits, most_taken}
+use Rattle.sdb_serve.specs.inner.Steps.{HaltsFor, PieceAnswered}
 use Rattle.sdb_serve.specs.declared.session.Session.{Session}
 use Rattle.sdb_serve.specs.declared.cause.Cause.{Cause}
 use Rattle.sdb_serve.specs.declared.cause.Cause.TheVariants.{End, BadLine, Source, Memory}
@@ -79,7 +79,7 @@ no_memory left n pending rest r input p old mid first clear low few is =
       pending ++ take n rest,
       near_taken pending (take n rest) clear low short,
       first.is.more ∙ ap (λ (t : List ℕ). pending ++ t) (sym (take-append-drop n rest)) ∙ sym (append_assoc pending (take n rest) (drop n rest))
-      ∙ ap (λ (t : List ℕ). (pending ++ take n rest) ++ t) (some_is (drop n rest) more (sym is ∙ told)),
+          ∙ ap (λ (t : List ℕ). (pending ++ take n rest) ++ t) (some_is (drop n rest) more (sym is ∙ told)),
     ))
     tt
 

@@ -1,6 +1,6 @@
 -- How a run goes on by one line, and by the lines of a piece.
-use Rattle.std.proofs.Common.{◌≡◌, ◌≢◌, ℕ, zero, suc, ◌+◌, ◌-◌, ◌<◌, ◌≤◌, List, [], ◌∷◌, ◌++◌, length, take, drop, get_or, refl, sym, ap, subst, ◌∙◌, arith, inl, inr, Option, Some, append_assoc, append-nil, length-append}
-use Rattle.std.specs.Prelude.{◌⊎◌, All, slice_range, option_and_then}
+use Rattle.std.proofs.Common.{◌≡◌, ◌≢◌, ℕ, zero, suc, ◌+◌, ◌<◌, ◌≤◌, List, [], ◌∷◌, ◌++◌, length, take, drop, get_or, refl, sym, ap, subst, ◌∙◌, arith, inr, Option, Some, append_assoc, append-nil, length-append}
+use Rattle.std.specs.Prelude.{All, slice_range, option_and_then}
 use Rattle.std.specs.Option.{option_map}
 use Rattle.std.specs.List.{flat_map}
 use Rattle.std.proofs.lemmas.Grind.{flat_map-append}
@@ -12,8 +12,8 @@ use Rattle.sdb_script.proofs.Within.{map_some, then_some}
 use Rattle.sdb_serve.proofs.Lines.{begins_at, rest_begins}
 use Rattle.sdb_serve.proofs.Outputs.{gets_nothing, gets_then, prefix_then}
 use Rattle.sdb_serve.specs.Session.{SessionState, first_session, play_line, play_lines}
-use Rattle.sdb_serve.specs.Runs.{BeginsWith, HasNoLineFeed, IsAnswered, IsNear, IsRun, MayStop, Run, Waits, ended, most_taken}
-use Rattle.sdb_serve.specs.inner.Steps.{Halts, HaltsAtSink, HaltsFor, IsAt, LineAnswered, LineStops, PieceAnswered, Represents}
+use Rattle.sdb_serve.specs.Runs.{BeginsWith, HasNoLineFeed, IsNear, IsRun, Run, Waits, ended, most_taken}
+use Rattle.sdb_serve.specs.inner.Steps.{Halts, IsAt, LineAnswered, LineStops, PieceAnswered, Represents}
 use Rattle.sdb_serve.specs.declared.session.Session.{Session}
 use Rattle.sdb_serve.specs.declared.cause.Stop.{Stop}
 use Rattle.sdb_serve.specs.declared.cause.Stop.TheVariants as stops

@@ -122,25 +122,11 @@ const FAULTS: [(Option<u64>, Option<u64>, &[&str], &str, u8, &str); 5] = [
         5,
         "new|genesis|",
     ),
-    (
-        Some(1),
-        None,
-        &["script"],
-        "new 0|",
-        4,
-        "new|stop 4|",
-    ),
+    (Some(1), None, &["script"], "new 0|", 4, "new|stop 4|"),
     (None, Some(0), &["-h"], "", 5, ""),
     // both fail: the source, and the sink at the last line for it
     (Some(1), Some(1), &["script"], "new 0|", 5, "new|"),
-    (
-        None,
-        Some(1),
-        &["script"],
-        "new 0|read 01 aa|",
-        5,
-        "new|",
-    ),
+    (None, Some(1), &["script"], "new 0|read 01 aa|", 5, "new|"),
 ];
 
 // The bytes of a text, with a line feed for each bar.
@@ -240,7 +226,10 @@ fn a_number_has_at_most_32_blocks(rt: HostRuntime) -> Result<(), Fail> {
         // both refusals come before the limit
         let last = format!(in alloc; "import 22 99\nimport 05 {parent}\nimport 22 {parent}\n")?;
         script.extend_from_slice(last.as_bytes())?;
-        let stop = format!(in alloc; "refused 4 UnknownParent\nrefused 3 AlreadyExists\nstop 3 line {}\n", number + 36)?;
+        let stop = format!(in alloc;
+            "refused 4 UnknownParent\nrefused 3 AlreadyExists\nstop 3 line {}\n",
+            number + 36
+        )?;
         want.extend_from_slice(stop.as_bytes())?;
         let (code, written) = outcome(alloc, &["script"], &script, None, None)?;
         assert_eq!(rt; code, 3, "{before}");
@@ -306,7 +295,11 @@ fn a_source_is_asked_only_where_no_line_waits(rt: HostRuntime) -> Result<(), Fai
             short: 0,
         };
         let mut sink = MemSink::new(alloc);
-        assert_eq!(rt; run(alloc, &words, &mut source, &mut sink).code(), want, "{script}");
+        assert_eq!(rt;
+            run(alloc, &words, &mut source, &mut sink).code(),
+            want,
+            "{script}"
+        );
         assert_eq!(rt; source.calls, calls, "{script}");
         assert_eq!(rt; source.short, 0, "{script}");
     }

@@ -1,5 +1,5 @@
 -- The steps of a run: one line, the lines of a piece of the input, and the last line.
-use Rattle.std.specs.Prelude.{◌≡◌, ◌⊎◌, ℕ, List, [], ◌∷◌, ◌++◌, length, drop, Bool, true, false, Option, Some, None}
+use Rattle.std.specs.Prelude.{◌≡◌, ◌⊎◌, ℕ, List, [], ◌∷◌, ◌++◌, length, drop, true, false, Option, Some}
 use Rattle.sdb_io.specs.Faults.{CountsFault}
 use Rattle.sdb_io.specs.Output.{Gets, GetsPrefix, Output}
 use Rattle.sdb_serve.specs.Session.{SessionState, play_line}

@@ -1,4 +1,3 @@
-use Rattle.std.proofs.Common.{refl}
 use Rattle.sdb_serve.proofs.Closing.{at_start, closes, cut_off, failed_twice, starts}
 use Rattle.sdb_serve.proofs.entry.run_script.Goals as goal
 

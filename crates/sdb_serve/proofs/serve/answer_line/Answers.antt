@@ -25,8 +25,8 @@ pub returns-in_err-put-clause-stopped : goal.returns-in_err-put-clause-stopped
 returns-in_err-put-clause-stopped g c =
     let p = err_from_is_err_and c.from_residual-in_err-put.result c.from_residual-in_err-put.ensures.1 in
     rw (p.1, p.2) (λ r rest h begins.
-        let a = c.in_ok-play_line.ensures.answer r.session h in
-        let reply : List ℕ = c.as_slice-reply.result.now in
-        let one : as_piece c.play_line.new.text.items ≡ reply ∷ [] =
-        ap as_piece (sym c.as_slice-reply.ensures.value) ∙ some_piece reply (sym c.is_empty.ensures ∙ c.if-not-is_empty.true) in
-        (reply, (c.args.line.now, rest, a.0, begins, a.1 ∙ ap (λ (t : List (List ℕ)). Some (t, a.0)) one), c.in_err-put.ensures.err))
+    let a = c.in_ok-play_line.ensures.answer r.session h in
+    let reply : List ℕ = c.as_slice-reply.result.now in
+    let one : as_piece c.play_line.new.text.items ≡ reply ∷ [] =
+    ap as_piece (sym c.as_slice-reply.ensures.value) ∙ some_piece reply (sym c.is_empty.ensures ∙ c.if-not-is_empty.true) in
+    (reply, (c.args.line.now, rest, a.0, begins, a.1 ∙ ap (λ (t : List (List ℕ)). Some (t, a.0)) one), c.in_err-put.ensures.err))

@@ -38,10 +38,10 @@ returns-in_err-answer_line-clause-stopped g c =
     let found = c.in-Some.ensures in
     let piece = c.args.piece.now in
     rw (p.1, p.2) (λ input rest r clear at.
-        let line = line_clear piece c.lines.start c.lines.seek c.in-Some.end found.0 (omega (arith, found.1)) (c.lines.invariant.clear clear) found.3 in
-        piece_stops _ c.args.from c.lines.start c.in-Some.end piece rest r input c.lines.session c.answer_line.new.session _ _ _ (omega (arith, found.0))
-        (omega (arith, found.0, c.lines.invariant.past)) found.1 c.requires.near.0 c.requires.near.1 found.2 line
-        (c.lines.invariant.answered input rest r clear at) c.in_err-answer_line.ensures.stopped c.in_err-answer_line.ensures.same_lines)
+    let line = line_clear piece c.lines.start c.lines.seek c.in-Some.end found.0 (omega (arith, found.1)) (c.lines.invariant.clear clear) found.3 in
+    piece_stops _ c.args.from c.lines.start c.in-Some.end piece rest r input c.lines.session c.answer_line.new.session _ _ _ (omega (arith, found.0))
+    (omega (arith, found.0, c.lines.invariant.past)) found.1 c.requires.near.0 c.requires.near.1 found.2 line
+    (c.lines.invariant.answered input rest r clear at) c.in_err-answer_line.ensures.stopped c.in_err-answer_line.ensures.same_lines)
 
 pub returns-clause-none_left : goal.returns-clause-none_left
 returns-clause-none_left g c = λ clear.

@@ -46,4 +46,4 @@ pub returns-in_err-reply-in-Job-clause-refused : goal.returns-in_err-reply-in-Jo
 returns-in_err-reply-in-Job-clause-refused c =
     let p = err_from_is_err_and c.from_residual-in_err-reply-in-Job.result c.from_residual-in_err-reply-in-Job.ensures.1 in
     rw (p.1, p.2) (λ s h e.
-        rw c.in-Job.is (job_none s _ (λ f. no_test ((c.if-is_empty.ensures s.blocks h.blocks).1 f)) (c.in_err-reply-in-Job.ensures.refused s.blocks h.blocks cc)))
+    rw c.in-Job.is (job_none s _ (λ f. no_test ((c.if-is_empty.ensures s.blocks h.blocks).1 f)) (c.in_err-reply-in-Job.ensures.refused s.blocks h.blocks cc)))

@@ -1,4 +1,4 @@
-use Rattle.std.proofs.Common.{sym, ◌∙◌, ap, arith, ◌+◌, length, Some, List, ℕ}
+use Rattle.std.proofs.Common.{◌∙◌, ap, arith, ◌+◌, length, Some, List, ℕ}
 use Rattle.std.proofs.lemmas.Result.{err_from_is_err_and}
 use Rattle.sdb_serve.proofs.Answering.{line_is, no_line, not_answered, too_far}
 use Rattle.sdb_serve.proofs.session.Session.play_line.Goals as goal
