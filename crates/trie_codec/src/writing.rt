@@ -56,8 +56,8 @@ pub fn encode_parts(
     Ok(Bytes::from_vec(out))
 }
 
-/// The spelling of a leaf whose partial key is all that `key` has from nibble `from` on, with a value of fewer than 2^30
-/// bytes. `OutOfMemory` comes only for want of memory.
+/// The spelling of a leaf whose partial key is all that `key` has from nibble `from` on. The key has at most 1,024 bytes
+/// and at least `from` nibbles, the value fewer than 2^30 bytes. `OutOfMemory` comes only for want of memory.
 pub fn encode_leaf(
     alloc: Global,
     key: &[u8],
