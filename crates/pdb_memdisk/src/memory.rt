@@ -16,19 +16,23 @@ use pdb_disk::{Disk, DiskFault};
 use sdb_io::OutOfMemory;
 use std::alloc::Global;
 
-/// A disk in memory. It tells its content, and keeps each write, cut and sync.
+/// A disk in memory. It tells its content, and keeps each write, cut and sync that was begun.
 #[derive(Drop)]
 pub struct MemDisk {
     alloc: Global,
+    // the files at first, and as they are read now
     base: FileSet,
     files: FileSet,
+    // the writes, cuts and syncs that were begun
     calls: Vec<Call>,
     clock: u64,
     reads: u64,
     faults: u64,
+    // how many calls there were that can fail, which of them are to, and from which on all are to
     tried: u64,
     failing: Vec<u64>,
     fuse: u64,
+    // memory was found for every call
     complete: bool,
     ghost stamped: { All (λ c. c.stamp ≤ clock) calls.items },
     ghost tied: { image_of files ≡ reads_of (replayed (all_settled (image_of base)) calls.items) },
@@ -161,10 +165,7 @@ impl MemDisk {
     fn fails_next(&self) -> bool
         ensures { IsTrue result ↔ IsToFail self.now }
     {
-        if self.fuse <= self.tried {
-            return true;
-        }
-        self.is_listed()
+        self.fuse <= self.tried || self.is_listed()
     }
 
     // Whether the next call's number is one of those that are to fail.
@@ -240,13 +241,12 @@ impl Disk for MemDisk {
 
     ghost read_is_image = { λ d t told le. replayed_image (all_settled (image_of d.base)) (until t d.calls.items) (settled_image (image_of d.base)) };
 
-    // A read fails only where it is to.
+    // A read fails just where it is to, and finds no want of memory.
     fn read_at(&mut self, file: u16, at: u64, into: &mut [u8]) -> Result<(), DiskFault>
         requires { at + length into.old ≤ 2 ^ 63 }
         ensures bytes { OnOk result (StandsAt (now_of self.old file).read at into.new) }
         ensures time { clock_of self.new ≡ clock_of self.old }
         ensures unchanged { past_of self.new ≡ past_of self.old }
-        ensures told { Unit {0} → Unit {0} }
         ensures fault { IfErr result (λ e. e ≡ DiskFault.Read) }
         ensures counted { CountsFault (is_err result) (failed_by self.old) (failed_by self.new) }
         ensures reads { reads_by self.old ≤ reads_by self.new }
@@ -268,6 +268,7 @@ impl Disk for MemDisk {
         Ok(())
     }
 
+    // A write that fails leaves what is read, and is pending if memory was found for it.
     fn write_at(&mut self, file: u16, at: u64, bytes: &[u8]) -> Result<(), DiskFault>
         requires { at + length bytes.now ≤ 2 ^ 63 }
         ensures time { Elapses (clock_of self.old) (clock_of self.new) (past_of self.old) (past_of self.new) }
@@ -275,7 +276,6 @@ impl Disk for MemDisk {
         ensures begun { OnOk result (Begins file (step.Write at bytes.now) (now_of self.old) (now_of self.new)) }
         ensures written { OnOk result ((now_of self.new file).read ≡ done (now_of self.old file).read (step.Write at bytes.now)) }
         ensures failed { OnErr result (MayBegin file (step.Write at bytes.now) (now_of self.old) (now_of self.new)) }
-        ensures told { Unit {0} → Unit {0} }
         ensures fault { IfErr result (λ e. e ≡ DiskFault.Write) }
         ensures counted { CountsFault (is_err result) (failed_by self.old) (failed_by self.new) }
         ensures reads { reads_by self.new ≡ reads_by self.old }
@@ -303,7 +303,6 @@ impl Disk for MemDisk {
         ensures begun { OnOk result (Begins file step.Cut (now_of self.old) (now_of self.new)) }
         ensures written { OnOk result ((now_of self.new file).read ≡ done (now_of self.old file).read step.Cut) }
         ensures failed { OnErr result (MayBegin file step.Cut (now_of self.old) (now_of self.new)) }
-        ensures told { Unit {0} → Unit {0} }
         ensures fault { IfErr result (λ e. e ≡ DiskFault.Cut) }
         ensures counted { CountsFault (is_err result) (failed_by self.old) (failed_by self.new) }
         ensures reads { reads_by self.new ≡ reads_by self.old }
@@ -329,7 +328,6 @@ impl Disk for MemDisk {
         ensures last { OnOk result (clock_of self.old < 2 ^ 64 - 1) }
         ensures synced { OnOk result (Settles file (now_of self.old) (now_of self.new)) }
         ensures failed { OnErr result (now_of self.new ≡ now_of self.old) }
-        ensures told { Unit {0} → Unit {0} }
         ensures fault { IfErr result (λ e. e ≡ DiskFault.Sync) }
         ensures counted { CountsFault (is_err result) (failed_by self.old) (failed_by self.new) }
         ensures reads { reads_by self.new ≡ reads_by self.old }
