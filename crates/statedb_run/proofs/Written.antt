@@ -1,5 +1,5 @@
 -- What a writer holds after some calls.
-use Rattle.std.proofs.Common.{◌≡◌, ℕ, zero, suc, ◌+◌, ◌-◌, List, [], ◌∷◌, ◌++◌, take, drop, length, ◌==◌, true, false, refl, sym, ap, ◌∙◌, arith, inl, inr, Option, None, Some, append_assoc, append-nil}
+use Rattle.std.proofs.Common.{◌≡◌, ℕ, ◌+◌, ◌-◌, List, [], ◌∷◌, ◌++◌, take, drop, length, ◌==◌, true, false, refl, sym, ap, ◌∙◌, arith, inl, inr, Option, None, Some, append_assoc, append-nil}
 use Rattle.std.proofs.lemmas.List.{drop-take, take-append-drop}
 use Rattle.std.proofs.lemmas.Bool.{ne_eqb}
 use Rattle.std.proofs.lemmas.Grind.{common_steps}
@@ -40,7 +40,7 @@ pub writes_more : (old new : Option (List ℕ)) (before bytes rest : List ℕ) (
     → (new ≡ Some (before ++ take (n + m) bytes)) × (drop m rest ≡ drop (n + m) bytes)
 writes_more old new before bytes rest n m e f h = (
   appends old new (before ++ take n bytes) (take m rest) e h
-  ∙ ap (λ (t : List ℕ). Some t) (append_assoc before (take n bytes) (take m rest) ∙ ap (λ (t : List ℕ). before ++ (take n bytes ++ take m t)) f
+      ∙ ap (λ (t : List ℕ). Some t) (append_assoc before (take n bytes) (take m rest) ∙ ap (λ (t : List ℕ). before ++ (take n bytes ++ take m t)) f
       ∙ ap (λ (t : List ℕ). before ++ t) (sym (take_more n m bytes))),
   ap (drop m) f ∙ sym (drop_more n m bytes),
 )
@@ -66,8 +66,11 @@ prefix_got None new bytes h = inl (record {
 })
 prefix_got (Some xs) new bytes h =
     let p = h xs refl in
-    inr (p.0, record {
-      bytes = λ before told. p.1 ∙ ap (λ (t : List ℕ). Some (t ++ take p.0 bytes)) (some_is xs before told)
-          ∙ ap (λ (t : List ℕ). Some (before ++ t)) (sym (append-nil (take p.0 bytes)));
-      pieces = λ before told. absurd cc;
-    })
+    inr (
+      p.0,
+      record {
+        bytes = λ before told. p.1 ∙ ap (λ (t : List ℕ). Some (t ++ take p.0 bytes)) (some_is xs before told)
+            ∙ ap (λ (t : List ℕ). Some (before ++ t)) (sym (append-nil (take p.0 bytes)));
+        pieces = λ before told. absurd cc;
+      },
+    )

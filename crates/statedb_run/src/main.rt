@@ -70,9 +70,9 @@ fn exit_code(status: Status) -> ExitCode
 /// Where there is no memory for the words, the last line is that of want of memory, as it is in a run.
 fn close_without_memory<K: Sink>(sink: &mut K) -> Status
     ensures written { ((result ≡ Status.NoMemory) × CountsFault false (K.fault_count sink.old) (K.fault_count sink.new)
-            × Gets (K.got sink.old) (K.got sink.new) (last_line Cause.Memory 0))
+        × Gets (K.got sink.old) (K.got sink.new) (last_line Cause.Memory 0))
         ⊎ ((result ≡ Status.SinkFault) × CountsFault true (K.fault_count sink.old) (K.fault_count sink.new)
-            × (line : List ℕ) × (last_line Cause.Memory 0 ≡ line ∷ []) × GetsPrefix (K.got sink.old) (K.got sink.new) [] line) }
+        × (line : List ℕ) × (last_line Cause.Memory 0 ≡ line ∷ []) × GetsPrefix (K.got sink.old) (K.got sink.new) [] line) }
 {
     match sink.put(b"stop 11\n") {
         Ok(()) => Status::NoMemory,

@@ -1,4 +1,4 @@
-use Rattle.std.proofs.Common.{◌≡◌, ◌≤◌, ◌++◌, ℕ, List, Some, drop, length, take}
+use Rattle.std.proofs.Common.{◌≡◌, ◌++◌, ℕ, List, Some, drop, length, take}
 use Rattle.statedb_run.proofs.streams.Stdout.write_whole.Given as goal
 
 -- no fault is counted here, and what isn't left was written
