@@ -9,7 +9,7 @@ use Rattle.pdb_disk.specs.Files.{FileBytes, FileState, Files, Image, Step, done}
 use Rattle.pdb_memdisk.specs.Contents.{all_settled}
 use Rattle.pdb_memdisk.specs.Record.{step_of, acted, played, replayed}
 use Rattle.pdb_memdisk.specs.inner.Steps.{applied}
-use Rattle.pdb_memdisk.specs.Images.{Placed, is_sync, syncs, placed, pending, steps_on, keeps_of}
+use Rattle.pdb_memdisk.specs.Images.{Placed, is_sync, syncs, placed_change, pending, steps_on, keeps_of}
 use Rattle.pdb_memdisk.specs.inner.Steps.{kept_step}
 use Rattle.pdb_memdisk.specs.declared.record.Call.{Call}
 use Rattle.pdb_memdisk.specs.declared.record.Action.{Action}
@@ -65,7 +65,7 @@ pub all_kept : (x : Image) (cs : List Call) → kept_after x cs ≡ keeps_of (re
 all_kept x cs = fun_ext (λ j. file_kept (all_settled x) x cs j (elim (list_any (syncs j) cs) as (λ b. x j ≡ (if b then x j else x j)) [ true ↦ refl | false ↦ refl ]))
 
 -- the same of one call of a file
-since_here : (f : FileState) (j file : ℕ) (a : Action) (ok b : Bool) (ss : List Step) → (j == file) ≡ true → (if b then [] else (acted f a ok).since) ++ ss ≡ (if (ok && is_sync a) || b then [] else f.since) ++ (steps_on j (if b then [] else placed file a) ++ ss)
+since_here : (f : FileState) (j file : ℕ) (a : Action) (ok b : Bool) (ss : List Step) → (j == file) ≡ true → (if b then [] else (acted f a ok).since) ++ ss ≡ (if (ok && is_sync a) || b then [] else f.since) ++ (steps_on j (if b then [] else placed_change file a) ++ ss)
 since_here f j file (Changes s) true true ss e = refl
 since_here f j file (Changes s) false true ss e = refl
 since_here f j file (Changes s) true false ss e = rw e (append_assoc f.since (step_of s ∷ []) ss)
@@ -75,7 +75,7 @@ since_here f j file Syncs false true ss e = refl
 since_here f j file Syncs true false ss e = refl
 since_here f j file Syncs false false ss e = refl
 
-none_there : (j file : ℕ) (a : Action) (b : Bool) → (j == file) ≡ false → steps_on j (if b then [] else placed file a) ≡ []
+none_there : (j file : ℕ) (a : Action) (b : Bool) → (j == file) ≡ false → steps_on j (if b then [] else placed_change file a) ≡ []
 none_there j file a true e = refl
 none_there j file (Changes s) false e = rw e refl
 none_there j file Syncs false e = refl
@@ -86,13 +86,13 @@ pending_since fs [] j = sym (append-nil (fs j).since)
 pending_since fs (c ∷ cs) j =
     pending_since (played fs c.file c.action c.done) cs j
     ∙ pick (j == c.file) refl
-    ∙ ap (λ (ss : List Step). (if list_any (syncs j) (c ∷ cs) then [] else (fs j).since) ++ ss) (sym (filter_map-append (λ (p : Placed). if j == p.0 then Some p.1 else None) (if list_any (syncs c.file) cs then [] else placed c.file c.action) (pending cs)))
+    ∙ ap (λ (ss : List Step). (if list_any (syncs j) (c ∷ cs) then [] else (fs j).since) ++ ss) (sym (filter_map-append (λ (p : Placed). if j == p.0 then Some p.1 else None) (if list_any (syncs c.file) cs then [] else placed_change c.file c.action) (pending cs)))
   where
     pick : (b : Bool) → (j == c.file) ≡ b → (if list_any (syncs j) cs then [] else (played fs c.file c.action c.done j).since) ++ steps_on j (pending cs)
-        ≡ (if list_any (syncs j) (c ∷ cs) then [] else (fs j).since) ++ (steps_on j (if list_any (syncs c.file) cs then [] else placed c.file c.action) ++ steps_on j (pending cs))
+        ≡ (if list_any (syncs j) (c ∷ cs) then [] else (fs j).since) ++ (steps_on j (if list_any (syncs c.file) cs then [] else placed_change c.file c.action) ++ steps_on j (pending cs))
     pick true e =
         let is : j ≡ c.file = grind (arith, nat_tests) in
         let same : list_any (syncs j) cs ≡ list_any (syncs c.file) cs = ap (λ k. list_any (syncs k) cs) is in
         rw e (since_here (fs j) j c.file c.action c.done (list_any (syncs j) cs) (steps_on j (pending cs)) e
-        ∙ ap (λ (b : Bool). (if (c.done && is_sync c.action) || list_any (syncs j) cs then [] else (fs j).since) ++ (steps_on j (if b then [] else placed c.file c.action) ++ steps_on j (pending cs))) same)
+        ∙ ap (λ (b : Bool). (if (c.done && is_sync c.action) || list_any (syncs j) cs then [] else (fs j).since) ++ (steps_on j (if b then [] else placed_change c.file c.action) ++ steps_on j (pending cs))) same)
     pick false e = rw e (ap (λ (ss : List Step). (if list_any (syncs j) cs then [] else (fs j).since) ++ (ss ++ steps_on j (pending cs))) (sym (none_there j c.file c.action (list_any (syncs c.file) cs) e)))

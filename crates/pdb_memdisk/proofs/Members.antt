@@ -7,7 +7,7 @@ use Rattle.pdb_disk.specs.Files.{Files, Image, Step, Spares, AllSpare, IsImage, 
 use Rattle.pdb_disk.specs.Files.{Step as step}
 use Rattle.pdb_disk.proofs.Images.{done_spared}
 use Rattle.pdb_memdisk.specs.Contents.{changed}
-use Rattle.pdb_memdisk.specs.Images.{Placed, steps_on, laid, half, first_n, first_n_and_half, all_but_one, listed, keeps_of}
+use Rattle.pdb_memdisk.specs.Images.{Placed, steps_on, image_after, half, first_n, first_n_and_half, all_but_one, listed, keeps_of}
 
 -- no step on file j covers place i
 abbrev pub SparesAt : List Placed → ℕ → ℕ → Type 0
@@ -42,7 +42,7 @@ changed_spared x p j i h = pick (j == p.0) refl
     pick true e = done_spared (x j) p.1 i (h (grind (arith, nat_tests)))
     pick false e = refl
 
-laid_spared : (x : Image) (ps : List Placed) (j i : ℕ) → SparesAt ps j i → laid x ps j i ≡ x j i
+laid_spared : (x : Image) (ps : List Placed) (j i : ℕ) → SparesAt ps j i → image_after x ps j i ≡ x j i
 laid_spared x [] j i h = refl
 laid_spared x (p ∷ ps) j i h = laid_spared (changed x p.0 p.1) ps j i h.1 ∙ changed_spared x p j i h.0
 
@@ -75,13 +75,13 @@ all_but_one_within : (ps : List Placed) → Each (Within ps) (all_but_one ps)
 all_but_one_within [] = tt
 all_but_one_within (p ∷ ps) = ((λ j i h. h.1), each_map (Within ps) (Within (p ∷ ps)) (λ qs. p ∷ qs) (λ qs w j i h. (h.0, w j i h.1)) (all_but_one ps) (all_but_one_within ps))
 
-member : (fs : Files) (ps : List Placed) → ((j : ℕ) → steps_on j ps ≡ (fs j).since) → (qs : List Placed) → Within ps qs → IsImage fs (laid (keeps_of fs) qs)
+member : (fs : Files) (ps : List Placed) → ((j : ℕ) → steps_on j ps ≡ (fs j).since) → (qs : List Placed) → Within ps qs → IsImage fs (image_after (keeps_of fs) qs)
 member fs ps h qs w j i sp = laid_spared (keeps_of fs) qs j i (w j i (spared_at ps j i (subst (λ (ss : List Step). AllSpare ss i) (sym (h j)) sp)))
 
 pub listed_members : (fs : Files) (ps : List Placed) → ((j : ℕ) → steps_on j ps ≡ (fs j).since) → Each (IsImage fs) (listed (keeps_of fs) ps)
 listed_members fs ps h =
-    each_append (IsImage fs) (map (laid (keeps_of fs)) (first_n ps)) (map (laid (keeps_of fs)) (first_n_and_half ps) ++ map (laid (keeps_of fs)) (all_but_one ps))
-    (each_map (Within ps) (IsImage fs) (laid (keeps_of fs)) (member fs ps h) (first_n ps) (first_n_within ps))
-    (each_append (IsImage fs) (map (laid (keeps_of fs)) (first_n_and_half ps)) (map (laid (keeps_of fs)) (all_but_one ps))
-    (each_map (Within ps) (IsImage fs) (laid (keeps_of fs)) (member fs ps h) (first_n_and_half ps) (first_n_and_half_within ps))
-    (each_map (Within ps) (IsImage fs) (laid (keeps_of fs)) (member fs ps h) (all_but_one ps) (all_but_one_within ps)))
+    each_append (IsImage fs) (map (image_after (keeps_of fs)) (first_n ps)) (map (image_after (keeps_of fs)) (first_n_and_half ps) ++ map (image_after (keeps_of fs)) (all_but_one ps))
+    (each_map (Within ps) (IsImage fs) (image_after (keeps_of fs)) (member fs ps h) (first_n ps) (first_n_within ps))
+    (each_append (IsImage fs) (map (image_after (keeps_of fs)) (first_n_and_half ps)) (map (image_after (keeps_of fs)) (all_but_one ps))
+    (each_map (Within ps) (IsImage fs) (image_after (keeps_of fs)) (member fs ps h) (first_n_and_half ps) (first_n_and_half_within ps))
+    (each_map (Within ps) (IsImage fs) (image_after (keeps_of fs)) (member fs ps h) (all_but_one ps) (all_but_one_within ps)))

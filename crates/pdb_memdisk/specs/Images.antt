@@ -22,23 +22,23 @@ abbrev pub syncs : ℕ → Call → Bool
 syncs file c = (file == c.file) && (c.done && is_sync c.action)
 
 -- the step of a call, unless it was a sync
-abbrev pub placed : ℕ → Action → List Placed
-placed file (Changes s) = (file, step_of s) ∷ []
-placed file Syncs = []
+abbrev pub placed_change : ℕ → Action → List Placed
+placed_change file (Changes s) = (file, step_of s) ∷ []
+placed_change file Syncs = []
 
 -- the steps whose file wasn't synced after them, in order of calls
 abbrev pub pending : List Call → List Placed
 pending [] = []
-pending (c ∷ cs) = (if list_any (syncs c.file) cs then [] else placed c.file c.action) ++ pending cs
+pending (c ∷ cs) = (if list_any (syncs c.file) cs then [] else placed_change c.file c.action) ++ pending cs
 
 -- the steps on one file
 abbrev pub steps_on : ℕ → List Placed → List Step
 steps_on j ps = filter_map (λ p. if j == p.0 then Some p.1 else None) ps
 
 -- all files after these steps
-abbrev pub laid : Image → List Placed → Image
-laid x [] = x
-laid x (p ∷ ps) = laid (changed x p.0 p.1) ps
+abbrev pub image_after : Image → List Placed → Image
+image_after x [] = x
+image_after x (p ∷ ps) = image_after (changed x p.0 p.1) ps
 
 -- the first half of a write's bytes, rounded down; of a cut there is no half
 abbrev pub half : Placed → List Placed
@@ -62,7 +62,7 @@ all_but_one (p ∷ ps) = ps ∷ map (λ qs. p ∷ qs) (all_but_one ps)
 
 -- the images that are listed, of files that were kept and the steps since
 abbrev pub listed : Image → List Placed → List Image
-listed x ps = map (laid x) (first_n ps) ++ (map (laid x) (first_n_and_half ps) ++ map (laid x) (all_but_one ps))
+listed x ps = map (image_after x) (first_n ps) ++ (map (image_after x) (first_n_and_half ps) ++ map (image_after x) (all_but_one ps))
 
 -- what all files kept
 abbrev pub keeps_of : Files → Image

@@ -2,7 +2,7 @@ ghost use Rattle.std.specs.Prelude.{◌≡◌, ◌++◌, ◌∷◌, [], map, IfO
 ghost use Rattle.std.specs.List.{list_any};
 ghost use Rattle.pdb_memdisk.specs.Contents.{image_of, all_settled};
 ghost use Rattle.pdb_memdisk.specs.Record.{replayed, step_of};
-ghost use Rattle.pdb_memdisk.specs.Images.{pending, syncs, laid, half, first_n, first_n_and_half, all_but_one, listed, keeps_of};
+ghost use Rattle.pdb_memdisk.specs.Images.{pending, syncs, image_after, half, first_n, first_n_and_half, all_but_one, listed, keeps_of};
 ghost use Rattle.pdb_memdisk.specs.inner.Steps.{kept_step, placed_all, seen_in};
 
 use crate::contents::FileSet;
@@ -69,7 +69,7 @@ fn apply_all(
     files: &mut FileSet,
     changes: &[(u16, &Change)],
 ) -> Result<(), OutOfMemory>
-    ensures { OnOk result (image_of files.new ≡ laid (image_of files.old) (placed_all changes.now)) }
+    ensures { OnOk result (image_of files.new ≡ image_after (image_of files.old) (placed_all changes.now)) }
 {
     for change in changes {
         files.apply(alloc, change.0, change.1)?;
@@ -86,7 +86,7 @@ fn add_half(
     sets: &mut Vec<FileSet>,
 ) -> Result<(), OutOfMemory>
     ensures { OnOk result (seen_in sets.new.items ≡ seen_in sets.old.items
-        ++ map (laid (image_of files.now)) (map (λ q. q ∷ []) (half (file, step_of change.now)))) }
+        ++ map (image_after (image_of files.now)) (map (λ q. q ∷ []) (half (file, step_of change.now)))) }
 {
     if let Change::Write(at, bytes) = change {
         let mut torn = files.copy(alloc)?;
@@ -104,7 +104,7 @@ fn add_first_n(
     sets: &mut Vec<FileSet>,
 ) -> Result<(), OutOfMemory>
     ensures { OnOk result (seen_in sets.new.items ≡ seen_in sets.old.items
-        ++ map (laid (image_of kept.now)) (first_n (placed_all changes.now))) }
+        ++ map (image_after (image_of kept.now)) (first_n (placed_all changes.now))) }
 {
     let mut files = kept.copy(alloc)?;
     for change in changes {
@@ -123,7 +123,7 @@ fn add_first_n_and_half(
     sets: &mut Vec<FileSet>,
 ) -> Result<(), OutOfMemory>
     ensures { OnOk result (seen_in sets.new.items ≡ seen_in sets.old.items
-        ++ map (laid (image_of kept.now)) (first_n_and_half (placed_all changes.now))) }
+        ++ map (image_after (image_of kept.now)) (first_n_and_half (placed_all changes.now))) }
 {
     let mut files = kept.copy(alloc)?;
     for change in changes {
@@ -141,7 +141,7 @@ fn add_all_but_one(
     sets: &mut Vec<FileSet>,
 ) -> Result<(), OutOfMemory>
     ensures { OnOk result (seen_in sets.new.items ≡ seen_in sets.old.items
-        ++ map (laid (image_of kept.now)) (all_but_one (placed_all changes.now))) }
+        ++ map (image_after (image_of kept.now)) (all_but_one (placed_all changes.now))) }
 {
     let mut files = kept.copy(alloc)?;
     for (n, change) in changes.iter().enumerate() {

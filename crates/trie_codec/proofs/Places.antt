@@ -4,11 +4,11 @@ use Rattle.std.specs.Prelude.{IfSome}
 use Rattle.std.specs.Borrow.{Bor}
 use Rattle.std.proofs.lemmas.Grind.{common_steps}
 use Rattle.std.proofs.lemmas.List.{drop-take, take-take}
-use Rattle.trie_codec.specs.NodeParts.{child_slice, parts_of, value_slice}
-use Rattle.trie_codec.specs.Places.{IsPart, BorrowsParts, children_from, place_in}
+use Rattle.trie_codec.specs.NodeParts.{child_slice, node_of_ref, value_slice}
+use Rattle.trie_codec.specs.Places.{IsSliceOf, BorrowsParts, children_from, place_in}
 use Rattle.trie_codec.specs.declared.node_ref.NodeRef.{NodeRef}
 
-pub part_self : (s : Bor (List ℕ)) → IsPart s s 0
+pub part_self : (s : Bor (List ℕ)) → IsSliceOf s s 0
 part_self s = record { block = refl; begins = omega arith; ends = omega arith; bytes = grind (arith, common_steps) }
 
 -- so many elements of so many elements
@@ -21,7 +21,7 @@ middle xs i j k n m within at =
     ap (take m) front ∙ take-take m (n - j) (drop j (drop i xs)) less ∙ ap (take m) from
 
 -- a part of a part that nothing stands after is a part
-pub part_within : (input part inner : Bor (List ℕ)) (after : ℕ) → IsPart input part 0 → IsPart part inner after → IsPart input inner after
+pub part_within : (input part inner : Bor (List ℕ)) (after : ℕ) → IsSliceOf input part 0 → IsSliceOf part inner after → IsSliceOf input inner after
 part_within input part inner after outer deep =
     let i = place_in input part in
     let j = place_in part inner in
@@ -41,12 +41,12 @@ part_within input part inner after outer deep =
     }
 
 -- the same of what need not be there, and of what may have failed
-pub some_within : (input part : Bor (List ℕ)) (inner : Option (Bor (List ℕ))) (after : ℕ) → IsPart input part 0 → IfSome inner (λ s. IsPart part s after) → IfSome inner (λ s. IsPart input s after)
+pub some_within : (input part : Bor (List ℕ)) (inner : Option (Bor (List ℕ))) (after : ℕ) → IsSliceOf input part 0 → IfSome inner (λ s. IsSliceOf part s after) → IfSome inner (λ s. IsSliceOf input s after)
 some_within input part None after outer deep = tt
 some_within input part (Some s) after outer deep = part_within input part s after outer deep
 
-pub borrows_within : (input part : Bor (List ℕ)) (r : NodeRef) (after : ℕ) → IsPart input part 0 → BorrowsParts part r after → BorrowsParts input r after
+pub borrows_within : (input part : Bor (List ℕ)) (r : NodeRef) (after : ℕ) → IsSliceOf input part 0 → BorrowsParts part r after → BorrowsParts input r after
 borrows_within input part r after outer lends = (
-  some_within input part (value_slice r) (length (children_from 0 (parts_of r)) + after) outer lends.0,
-  (λ i. some_within input part (child_slice r i) (length (children_from (i + 1) (parts_of r)) + after) outer (lends.1 i)),
+  some_within input part (value_slice r) (length (children_from 0 (node_of_ref r)) + after) outer lends.0,
+  (λ i. some_within input part (child_slice r i) (length (children_from (i + 1) (node_of_ref r)) + after) outer (lends.1 i)),
 )

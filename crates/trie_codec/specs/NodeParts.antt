@@ -20,8 +20,8 @@ abbrev pub kind_of : Node → Kind
 kind_of n = kind_by (has_child n.children) n.value
 
 -- a node's parts, without where they lie
-abbrev pub parts_of : NodeRef → Node
-parts_of r = record {
+abbrev pub node_of_ref : NodeRef → Node
+node_of_ref r = record {
   partial = drop (r.partial_len % 2) (nibbles_of r.partial.now);
   value = bytes_in r.value;
   children = map bytes_in r.children;

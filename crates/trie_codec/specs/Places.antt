@@ -3,7 +3,7 @@ use Rattle.std.specs.Prelude.{◌≡◌, ℕ, ◌+◌, ◌-◌, ◌≤◌, List,
 use Rattle.std.specs.List.{flat_map}
 use Rattle.std.specs.Borrow.{Bor}
 use Rattle.trie_model.specs.Node.{Node, optional_string}
-use Rattle.trie_codec.specs.NodeParts.{child_slice, parts_of, value_slice}
+use Rattle.trie_codec.specs.NodeParts.{child_slice, node_of_ref, value_slice}
 use Rattle.trie_codec.specs.declared.node_ref.NodeRef.{NodeRef}
 
 -- how many bytes after the input's first one a slice begins
@@ -12,7 +12,7 @@ place_in input part = part.ref_ptr.1 - input.ref_ptr.1
 
 -- A slice is the part of the input that so many bytes follow: it lies in the input's memory, has the bytes that
 -- are at its place, and ends so many bytes before the input does.
-pub record IsPart (input part : Bor (List ℕ)) (after : ℕ) : Type 0 where
+pub record IsSliceOf (input part : Bor (List ℕ)) (after : ℕ) : Type 0 where
   pub block : part.ref_ptr.0 ≡ input.ref_ptr.0
   pub begins : input.ref_ptr.1 ≤ part.ref_ptr.1
   pub ends : place_in input part + length part.now + after ≡ length input.now
@@ -26,5 +26,5 @@ children_from i n = flat_map optional_string (drop i n.children)
 -- the value, and the later children after a child.
 abbrev pub BorrowsParts : Bor (List ℕ) → NodeRef → ℕ → Type 0
 BorrowsParts input r after =
-    IfSome (value_slice r) (λ v. IsPart input v (length (children_from 0 (parts_of r)) + after))
-    × ((i : ℕ) → IfSome (child_slice r i) (λ c. IsPart input c (length (children_from (i + 1) (parts_of r)) + after)))
+    IfSome (value_slice r) (λ v. IsSliceOf input v (length (children_from 0 (node_of_ref r)) + after))
+    × ((i : ℕ) → IfSome (child_slice r i) (λ c. IsSliceOf input c (length (children_from (i + 1) (node_of_ref r)) + after)))

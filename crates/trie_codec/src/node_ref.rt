@@ -41,12 +41,12 @@ pub struct NodeRef<'a> {
 }
 
 impl<'a> NodeRef<'a> {
-    ghost use Rattle.trie_codec.specs.NodeParts.{IsChildOf, child_bytes, child_slice, kind_of, parts_of, value_slice};
+    ghost use Rattle.trie_codec.specs.NodeParts.{IsChildOf, child_bytes, child_slice, kind_of, node_of_ref, value_slice};
 
     /// What the node is.
     #[tactic(auto, using(crate::proofs::Children::has_child_in))]
     pub fn kind(&self) -> Kind
-        ensures { result ≡ kind_of (parts_of self.now) }
+        ensures { result ≡ kind_of (node_of_ref self.now) }
     {
         if has_child(&self.children) {
             Kind::Branch
@@ -60,7 +60,7 @@ impl<'a> NodeRef<'a> {
     /// How many nibbles the partial key has.
     #[tactic(auto, using(crate::proofs::Partial::partial_key))]
     pub fn partial_len(&self) -> usize
-        ensures { result ≡ length (parts_of self.now).partial }
+        ensures { result ≡ length (node_of_ref self.now).partial }
     {
         self.partial_len
     }
@@ -68,8 +68,8 @@ impl<'a> NodeRef<'a> {
     /// Nibble `i` of the partial key.
     #[tactic(auto, using(crate::proofs::Partial::partial_key))]
     pub fn nibble(&self, i: usize) -> u8
-        requires { i < length (parts_of self.now).partial }
-        ensures { result ≡ slice_index (parts_of self.now).partial i }
+        requires { i < length (node_of_ref self.now).partial }
+        ensures { result ≡ slice_index (node_of_ref self.now).partial i }
     {
         let half = self.partial_len % 2 + i;
         let byte = self.partial[half / 2];
@@ -78,7 +78,7 @@ impl<'a> NodeRef<'a> {
 
     /// The value, if the node has one.
     pub fn value(&self) -> Option<&'a [u8]>
-        ensures bytes { bytes_in result ≡ (parts_of self.now).value }
+        ensures bytes { bytes_in result ≡ (node_of_ref self.now).value }
         ensures borrowed { result ≡ value_slice self.now }
     {
         self.value
@@ -87,7 +87,7 @@ impl<'a> NodeRef<'a> {
     /// The child at nibble `i`.
     pub fn child(&self, i: u8) -> ChildRef<'a>
         requires { i < 16 }
-        ensures bytes { slice_index_or (parts_of self.now).children i None ≡ child_bytes result }
+        ensures bytes { slice_index_or (node_of_ref self.now).children i None ≡ child_bytes result }
         ensures borrowed { IsChildOf result (child_slice self.now i) }
     {
         let child = self.children[i as usize];

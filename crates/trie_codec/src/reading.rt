@@ -5,8 +5,8 @@ ghost use Rattle.sdb_scale.specs.Compact.{string};
 ghost use Rattle.trie_model.specs.Node.{IsNode, Node, optional_string, spelling};
 ghost use Rattle.trie_codec.specs.Slices.{bytes_in};
 ghost use Rattle.trie_codec.specs.inner.Reads.{Reads};
-ghost use Rattle.trie_codec.specs.NodeParts.{parts_of};
-ghost use Rattle.trie_codec.specs.Places.{IsPart, BorrowsParts};
+ghost use Rattle.trie_codec.specs.NodeParts.{node_of_ref};
+ghost use Rattle.trie_codec.specs.Places.{IsSliceOf, BorrowsParts};
 ghost use Rattle.trie_codec.specs.Reading.{first_bitmap, first_branch, first_bytes, first_child, first_children, first_count, first_header, first_leaf, first_length, first_node, node_of_bytes, first_partial, reads_inline, first_string, first_value};
 ghost use Rattle.trie_codec.specs.inner.Steps.{first_lowest_child};
 
@@ -31,8 +31,8 @@ struct Header {
 fn take_bytes(count: usize, bytes: &[u8]) -> Result<(&[u8], &[u8]), CodecFault>
     ensures gives { Reads (λ x. (x.0.now, x.1.now)) result (first_bytes count bytes.now) }
     ensures len { IfOk result (λ x. length x.0.now ≡ count) }
-    ensures front { IfOk result (λ x. IsPart bytes.entry x.0 (length x.1.now)) }
-    ensures rest { IfOk result (λ x. IsPart bytes.entry x.1 0) }
+    ensures front { IfOk result (λ x. IsSliceOf bytes.entry x.0 (length x.1.now)) }
+    ensures rest { IfOk result (λ x. IsSliceOf bytes.entry x.1 0) }
 {
     if bytes.len() < count {
         return Err(CodecFault::Short);
@@ -45,7 +45,7 @@ fn take_bytes(count: usize, bytes: &[u8]) -> Result<(&[u8], &[u8]), CodecFault>
 fn read_count(bytes: &[u8]) -> Result<(usize, &[u8]), CodecFault>
     ensures gives { Reads (λ x. (x.0, x.1.now)) result (first_count 63 bytes.now) }
     ensures few { IfOk result (λ x. x.0 ≤ 2048) }
-    ensures rest { IfOk result (λ x. IsPart bytes.entry x.1 0) }
+    ensures rest { IfOk result (λ x. IsSliceOf bytes.entry x.1 0) }
 {
     let mut count = 63;
     for (i, more) in bytes.iter().enumerate() {
@@ -65,7 +65,7 @@ fn read_count(bytes: &[u8]) -> Result<(usize, &[u8]), CodecFault>
 fn read_header(bytes: &[u8]) -> Result<(Header, &[u8]), CodecFault>
     ensures gives { Reads (λ x. ((x.0.kind, x.0.nibbles), x.1.now)) result (first_header bytes.now) }
     ensures few { IfOk result (λ x. x.0.nibbles ≤ 2048) }
-    ensures rest { IfOk result (λ x. IsPart bytes.entry x.1 0) }
+    ensures rest { IfOk result (λ x. IsSliceOf bytes.entry x.1 0) }
 {
     let [first, rest @ ..] = bytes else {
         return Err(CodecFault::Short);
@@ -98,7 +98,7 @@ fn read_partial(nibbles: usize, bytes: &[u8]) -> Result<(&[u8], &[u8]), CodecFau
     ensures gives { Reads (λ x. (drop (nibbles % 2) (nibbles_of x.0.now), x.1.now)) result
         (first_partial nibbles bytes.now) }
     ensures whole { IfOk result (λ x. length x.0.now ≡ (nibbles + 1) / 2) }
-    ensures rest { IfOk result (λ x. IsPart bytes.entry x.1 0) }
+    ensures rest { IfOk result (λ x. IsSliceOf bytes.entry x.1 0) }
 {
     if nibbles % 2 == 1 {
         let [first, ..] = bytes else {
@@ -114,7 +114,7 @@ fn read_partial(nibbles: usize, bytes: &[u8]) -> Result<(&[u8], &[u8]), CodecFau
 // A compact number in its shortest mode.
 fn read_length(bytes: &[u8]) -> Result<(usize, &[u8]), CodecFault>
     ensures gives { Reads (λ x. (x.0, x.1.now)) result (first_length bytes.now) }
-    ensures rest { IfOk result (λ x. IsPart bytes.entry x.1 0) }
+    ensures rest { IfOk result (λ x. IsSliceOf bytes.entry x.1 0) }
 {
     match compact(bytes) {
         Ok((len, rest)) => Ok((len as usize, rest)),
@@ -129,8 +129,8 @@ fn read_length(bytes: &[u8]) -> Result<(usize, &[u8]), CodecFault>
 #[tactic(auto, unfolding(crate::specs::Reading::first_string))]
 fn read_string(bytes: &[u8]) -> Result<(&[u8], &[u8]), CodecFault>
     ensures gives { Reads (λ x. (x.0.now, x.1.now)) result (first_string bytes.now) }
-    ensures string { IfOk result (λ x. IsPart bytes.entry x.0 (length x.1.now)) }
-    ensures rest { IfOk result (λ x. IsPart bytes.entry x.1 0) }
+    ensures string { IfOk result (λ x. IsSliceOf bytes.entry x.0 (length x.1.now)) }
+    ensures rest { IfOk result (λ x. IsSliceOf bytes.entry x.1 0) }
 {
     let (len, rest) = read_length(bytes)?;
     take_bytes(len, rest)
@@ -139,8 +139,8 @@ fn read_string(bytes: &[u8]) -> Result<(&[u8], &[u8]), CodecFault>
 // The value of a branch, which one of kind 3 has.
 fn read_value(kind: u8, bytes: &[u8]) -> Result<(Option<&[u8]>, &[u8]), CodecFault>
     ensures gives { Reads (λ x. (bytes_in x.0, x.1.now)) result (first_value kind bytes.now) }
-    ensures value { IfOk result (λ x. IfSome x.0 (λ v. IsPart bytes.entry v (length x.1.now))) }
-    ensures rest { IfOk result (λ x. IsPart bytes.entry x.1 0) }
+    ensures value { IfOk result (λ x. IfSome x.0 (λ v. IsSliceOf bytes.entry v (length x.1.now))) }
+    ensures rest { IfOk result (λ x. IsSliceOf bytes.entry x.1 0) }
 {
     if kind != 3 {
         return Ok((None, bytes));
@@ -153,7 +153,7 @@ fn read_value(kind: u8, bytes: &[u8]) -> Result<(Option<&[u8]>, &[u8]), CodecFau
 #[tactic(auto, using(crate::proofs::Bits::bits_set_of_16))]
 fn read_bitmap(kind: u8, bytes: &[u8]) -> Result<(u16, &[u8]), CodecFault>
     ensures gives { Reads (λ x. (x.0, x.1.now)) result (first_bitmap kind bytes.now) }
-    ensures rest { IfOk result (λ x. IsPart bytes.entry x.1 0) }
+    ensures rest { IfOk result (λ x. IsSliceOf bytes.entry x.1 0) }
 {
     let [low, high, rest @ ..] = bytes else {
         return Err(CodecFault::Short);
@@ -190,9 +190,9 @@ fn read_child(depth: u8, bytes: &[u8]) -> Result<(&[u8], &[u8]), CodecFault>
     ensures gives { Reads (λ x. (x.0.now, x.1.now)) result
         (first_child (reads_inline depth) bytes.now) }
     ensures small { IfOk result (λ x. length x.0.now ≤ 32) }
-    ensures child { IfOk result (λ x. IsPart bytes.entry x.0 (length x.1.now)) }
+    ensures child { IfOk result (λ x. IsSliceOf bytes.entry x.0 (length x.1.now)) }
     ensures took { IfOk result (λ x. length bytes.now ≡ length (string x.0.now) + length x.1.now) }
-    ensures rest { IfOk result (λ x. IsPart bytes.entry x.1 0) }
+    ensures rest { IfOk result (λ x. IsSliceOf bytes.entry x.1 0) }
 {
     let (len, rest) = read_length(bytes)?;
     if len == 0 || len > 32 {
@@ -215,10 +215,10 @@ fn read_lowest_child(
     ensures gives { Reads (λ x. (bytes_in x.0, x.1.now)) result
         (first_lowest_child (reads_inline depth) bits bytes.now) }
     ensures small { IfOk result (λ x. IfSome x.0 (λ c. length c.now ≤ 32)) }
-    ensures child { IfOk result (λ x. IfSome x.0 (λ c. IsPart bytes.entry c (length x.1.now))) }
+    ensures child { IfOk result (λ x. IfSome x.0 (λ c. IsSliceOf bytes.entry c (length x.1.now))) }
     ensures took { IfOk result (λ x. length bytes.now
         ≡ length (optional_string (bytes_in x.0)) + length x.1.now) }
-    ensures rest { IfOk result (λ x. IsPart bytes.entry x.1 0) }
+    ensures rest { IfOk result (λ x. IsSliceOf bytes.entry x.1 0) }
 {
     if bits % 2 == 0 {
         return Ok((None, bytes));
@@ -242,9 +242,9 @@ fn read_children(depth: u8, bits: u16, bytes: &[u8]) -> Result<Children<'_>, Cod
     ensures small { IfOk result (λ c. (i : ℕ)
         → IfSome (slice_index_or c.found i None) (λ s. length s.now ≤ 32)) }
     ensures children { IfOk result (λ c. (i : ℕ) → IfSome (slice_index_or c.found i None)
-        (λ s. IsPart bytes.entry s (length
+        (λ s. IsSliceOf bytes.entry s (length
         (flat_map optional_string (map bytes_in (drop (i + 1) c.found))) + length c.rest.now))) }
-    ensures rest { IfOk result (λ c. IsPart bytes.entry c.rest 0) }
+    ensures rest { IfOk result (λ c. IsSliceOf bytes.entry c.rest 0) }
     ensures took { IfOk result (λ c. length bytes.now
         ≡ length (flat_map optional_string (map bytes_in c.found)) + length c.rest.now) }
 {
@@ -270,10 +270,10 @@ fn read_leaf<'a>(
 ) -> Result<(NodeRef<'a>, &'a [u8]), CodecFault>
     requires short { partial_len ≤ 2048 }
     requires whole { length partial.now ≡ (partial_len + 1) / 2 }
-    ensures gives { Reads (λ x. (parts_of x.0, x.1.now)) result
+    ensures gives { Reads (λ x. (node_of_ref x.0, x.1.now)) result
         (first_leaf (drop (partial_len % 2) (nibbles_of partial.now)) bytes.now) }
     ensures parts { IfOk result (λ x. BorrowsParts bytes.entry x.0 (length x.1.now)) }
-    ensures rest { IfOk result (λ x. IsPart bytes.entry x.1 0) }
+    ensures rest { IfOk result (λ x. IsSliceOf bytes.entry x.1 0) }
 {
     let (value, rest) = read_string(bytes)?;
     let leaf = NodeRef {
@@ -295,11 +295,11 @@ fn read_branch<'a>(
 ) -> Result<(NodeRef<'a>, &'a [u8]), CodecFault>
     requires short { header.nibbles ≤ 2048 }
     requires whole { length partial.now ≡ (header.nibbles + 1) / 2 }
-    ensures gives { Reads (λ x. (parts_of x.0, x.1.now)) result
+    ensures gives { Reads (λ x. (node_of_ref x.0, x.1.now)) result
         (first_branch (reads_inline depth) header.kind
         (drop (header.nibbles % 2) (nibbles_of partial.now)) bytes.now) }
     ensures parts { IfOk result (λ x. BorrowsParts bytes.entry x.0 (length x.1.now)) }
-    ensures rest { IfOk result (λ x. IsPart bytes.entry x.1 0) }
+    ensures rest { IfOk result (λ x. IsSliceOf bytes.entry x.1 0) }
 {
     let (bits, rest) = read_bitmap(header.kind, bytes)?;
     let (value, rest) = read_value(header.kind, rest)?;
@@ -317,10 +317,10 @@ fn read_branch<'a>(
 #[cycle(inline)]
 #[tactic(auto, unfolding(crate::specs::Reading::first_node))]
 fn read_node(depth: u8, bytes: &[u8]) -> Result<(NodeRef<'_>, &[u8]), CodecFault>
-    ensures gives { Reads (λ x. (parts_of x.0, x.1.now)) result
+    ensures gives { Reads (λ x. (node_of_ref x.0, x.1.now)) result
         (first_node (reads_inline depth) bytes.now) }
     ensures parts { IfOk result (λ x. BorrowsParts bytes.entry x.0 (length x.1.now)) }
-    ensures rest { IfOk result (λ x. IsPart bytes.entry x.1 0) }
+    ensures rest { IfOk result (λ x. IsSliceOf bytes.entry x.1 0) }
 {
     let (header, rest) = read_header(bytes)?;
     if header.kind == 0 {
@@ -345,13 +345,13 @@ impl<'a> NodeRef<'a> {
     /// children are read too; those that are given by a hash are not looked up.
     #[tactic(auto, unfolding(crate::specs::Reading::node_of_bytes))]
     pub fn read(bytes: &'a [u8]) -> Result<NodeRef<'a>, CodecFault>
-        ensures found { IfOk result (λ r. node_of_bytes bytes.entry.now ≡ Ok (parts_of r)) }
+        ensures found { IfOk result (λ r. node_of_bytes bytes.entry.now ≡ Ok (node_of_ref r)) }
         // What is read is the spelling of its parts, and these are the parts of a node.
         ensures spelled { IfOk result
-            (λ r. IsNode (parts_of r) × (bytes.entry.now ≡ spelling (parts_of r))) }
+            (λ r. IsNode (node_of_ref r) × (bytes.entry.now ≡ spelling (node_of_ref r))) }
         // The spelling of a node is read, as that node.
         ensures only { (n : Node) → IsNode n → bytes.entry.now ≡ spelling n
-            → IsOkAnd result (λ r. parts_of r ≡ n) }
+            → IsOkAnd result (λ r. node_of_ref r ≡ n) }
         // The value and the children are borrowed from the input, each from its place in the node's spelling.
         ensures borrowed { IfOk result (λ r. BorrowsParts bytes.entry r 0) }
         ensures fault { IfErr result (λ f. node_of_bytes bytes.entry.now ≡ Err f) }

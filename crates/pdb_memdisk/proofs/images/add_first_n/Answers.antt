@@ -3,7 +3,7 @@ use Rattle.std.proofs.lemmas.List.{map-append}
 use Rattle.pdb_disk.specs.Files.{Image}
 use Rattle.pdb_memdisk.specs.Contents.{image_of, changed}
 use Rattle.pdb_memdisk.specs.Record.{step_of}
-use Rattle.pdb_memdisk.specs.Images.{Placed, laid, first_n}
+use Rattle.pdb_memdisk.specs.Images.{Placed, image_after, first_n}
 use Rattle.pdb_memdisk.specs.inner.Steps.{placed_all, seen_in}
 use Rattle.pdb_memdisk.proofs.Laid.{drop_next, first_n_more}
 use Rattle.pdb_memdisk.proofs.images.add_first_n.Goals as goal
@@ -20,7 +20,7 @@ loop-change-preserved c =
     let seen = seen_in c.loop-change.sets.items in
     let items : c.push.new.self.items ≡ c.loop-change.sets.items ++ c.loop-change.files ∷ [] = search rules in
     let pushed : seen_in c.push.new.self.items ≡ seen ++ x ∷ [] = ap seen_in items ∙ map-append image_of c.loop-change.sets.items (c.loop-change.files ∷ []) in
-    ap (λ (s : List Image). s ++ map (laid y) (first_n (placed_all rest))) pushed
+    ap (λ (s : List Image). s ++ map (image_after y) (first_n (placed_all rest))) pushed
     ∙ first_n_more seen x y p (placed_all rest) made
-    ∙ ap (λ ds. seen ++ map (laid x) (first_n (placed_all ds))) (sym next)
+    ∙ ap (λ ds. seen ++ map (image_after x) (first_n (placed_all ds))) (sym next)
     ∙ c.loop-change.invariant

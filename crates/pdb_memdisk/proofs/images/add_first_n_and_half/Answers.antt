@@ -2,7 +2,7 @@ use Rattle.std.proofs.Common.{rules, ◌≡◌, ◌+◌, List, [], ◌∷◌, �
 use Rattle.pdb_disk.specs.Files.{Image}
 use Rattle.pdb_memdisk.specs.Contents.{image_of, changed}
 use Rattle.pdb_memdisk.specs.Record.{step_of}
-use Rattle.pdb_memdisk.specs.Images.{Placed, laid, half, first_n_and_half}
+use Rattle.pdb_memdisk.specs.Images.{Placed, image_after, half, first_n_and_half}
 use Rattle.pdb_memdisk.specs.inner.Steps.{placed_all, seen_in}
 use Rattle.pdb_memdisk.proofs.Laid.{drop_next, half_more}
 use Rattle.pdb_memdisk.proofs.images.add_first_n_and_half.Goals as goal
@@ -17,8 +17,8 @@ loop-change-preserved c =
     let next : drop c.loop-change.change-index c.args.changes.now ≡ cur ∷ rest = drop_next c.args.changes.now c.loop-change.change-index cur (search rules) c.change-item.is in
     let made : y ≡ changed x p.0 p.1 = search rules in
     let seen = seen_in c.loop-change.sets.items in
-    let pushed : seen_in c.add_half.new.sets.items ≡ seen ++ map (laid x) (map (λ q. q ∷ []) (half p)) = search rules in
-    ap (λ (s : List Image). s ++ map (laid y) (first_n_and_half (placed_all rest))) pushed
+    let pushed : seen_in c.add_half.new.sets.items ≡ seen ++ map (image_after x) (map (λ q. q ∷ []) (half p)) = search rules in
+    ap (λ (s : List Image). s ++ map (image_after y) (first_n_and_half (placed_all rest))) pushed
     ∙ half_more seen x y p (placed_all rest) made
-    ∙ ap (λ ds. seen ++ map (laid x) (first_n_and_half (placed_all ds))) (sym next)
+    ∙ ap (λ ds. seen ++ map (image_after x) (first_n_and_half (placed_all ds))) (sym next)
     ∙ c.loop-change.invariant

@@ -7,7 +7,7 @@ use Rattle.std.proofs.lemmas.Grind.{take-set_at}
 use Rattle.std.specs.Borrow.{Bor}
 use Rattle.trie_model.specs.Node.{optional_string}
 use Rattle.trie_codec.specs.Slices.{bytes_in}
-use Rattle.trie_codec.specs.Places.{IsPart}
+use Rattle.trie_codec.specs.Places.{IsSliceOf}
 use Rattle.trie_codec.specs.Reading.{first_children, reads_inline}
 use Rattle.trie_codec.proofs.Children.{goes_on, ends, is_done}
 use Rattle.trie_codec.proofs.Slices.{after_next, more_taken, none_from_next, none_borrowed, one_more_after, one_more_lent, same_after}
@@ -45,7 +45,7 @@ read_children-loop-i-preserved t c =
     let e : map bytes_in (take (l.i + 1) (set found l.i child)) ≡ map bytes_in (take l.i found) ++ bytes_in child ∷ [] = ap (map bytes_in) taken ∙ map_push bytes_in (take l.i found) child in record {
       sixteen = length-set found l.i child ∙ l.invariant.sixteen;
       none = none_from_next found l.i child l.invariant.none;
-      lent = one_more_after (IsPart c.args.bytes) found l.i child (length l.children.rest.now) after within l.invariant.none c.in_ok-child.ensures.took l.invariant.lent
+      lent = one_more_after (IsSliceOf c.args.bytes) found l.i child (length l.children.rest.now) after within l.invariant.none c.in_ok-child.ensures.took l.invariant.lent
           (some_within c.args.bytes l.children.rest child after l.invariant.rest c.in_ok-child.ensures.child);
       took = more_taken found l.i child (length c.args.bytes.now) (length l.children.rest.now) after within l.invariant.none c.in_ok-child.ensures.took l.invariant.took;
       small = one_more_lent (λ s. length s.now ≤ 32) found l.i child l.invariant.small c.in_ok-child.ensures.small;
@@ -63,7 +63,7 @@ read_children-returns-clause-gives t c =
     ∙ ap (λ (cs : List (Option (Bor (List ℕ)))). Ok (map bytes_in cs, l.children.rest.now)) all
 
 pub read_children-returns-clause-children : goal.read_children-returns-clause-children
-read_children-returns-clause-children t c = after_next (IsPart c.args.bytes) c.loop-i.children.found (length c.loop-i.children.rest.now) c.loop-i.invariant.lent
+read_children-returns-clause-children t c = after_next (IsSliceOf c.args.bytes) c.loop-i.children.found (length c.loop-i.children.rest.now) c.loop-i.invariant.lent
 
 pub read_branch-returns-clause-parts : goal.read_branch-returns-clause-parts
 read_branch-returns-clause-parts t c =
@@ -75,9 +75,9 @@ read_branch-returns-clause-parts t c =
     let rest = length found.children.rest.now in
     let after = part_within bytes bits.rest value.rest 0 bits.ensures.rest value.ensures.rest in
     let later : ℕ → ℕ = λ i. length (flat_map optional_string (map bytes_in (drop (i + 1) cs))) + rest in (
-      same_after (IsPart bytes) value.value (length value.rest.now) (length (flat_map optional_string (map bytes_in cs)) + rest) found.ensures.took
+      same_after (IsSliceOf bytes) value.value (length value.rest.now) (length (flat_map optional_string (map bytes_in cs)) + rest) found.ensures.took
           (some_within bytes bits.rest value.value (length value.rest.now) bits.ensures.rest value.ensures.value),
-      (λ i. same_after (IsPart bytes) (get_or cs i None) (later i) (length (flat_map optional_string (drop (i + 1) (map bytes_in cs))) + rest)
+      (λ i. same_after (IsSliceOf bytes) (get_or cs i None) (later i) (length (flat_map optional_string (drop (i + 1) (map bytes_in cs))) + rest)
           (ap (λ (l : List (Option (List ℕ))). length (flat_map optional_string l) + rest) (sym (drop-map bytes_in (i + 1) cs)))
           (some_within bytes value.rest (get_or cs i None) (later i) after (found.ensures.children i))),
     )
