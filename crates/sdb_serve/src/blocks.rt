@@ -52,14 +52,14 @@ impl BlockMap {
     }
 
     /// Accepts genesis, where no block was accepted. An `Err` leaves the blocks as they were.
-    pub(crate) fn genesis(&mut self, block: &Block) -> Result<(), OutOfMemory>
-        requires { All ChangeIsWithin block.now.changes }
-        ensures ok { RepresentsBlocks self.old [] → OnOk result (RepresentsBlocks self.new (block.now ∷ [])) }
+    pub(crate) fn genesis(&mut self, block: Block) -> Result<(), OutOfMemory>
+        requires { All ChangeIsWithin block.changes }
+        ensures ok { RepresentsBlocks self.old [] → OnOk result (RepresentsBlocks self.new (block ∷ [])) }
         ensures err { (blocks : List Block) → RepresentsBlocks self.old blocks
             → OnErr result (RepresentsBlocks self.new blocks) }
     {
         let none = StateMap::new(self.alloc);
-        let state = none.with_changes(self.alloc, block.changes.as_slice())?;
+        let state = none.with_changes(block.changes)?;
         self.add_entry(block.id, BlockEntry { number: 0, state }, 1)
     }
 
@@ -90,12 +90,12 @@ impl BlockMap {
 
     /// The reply to an import of a block, which is then accepted unless it is refused; none where its number has as
     /// many blocks as it may have. An `Err` leaves the blocks as they were.
-    pub(crate) fn import(&mut self, block: &Block) -> Result<Option<Reply>, OutOfMemory>
-        requires { All ChangeIsWithin block.now.changes }
+    pub(crate) fn import(&mut self, block: Block) -> Result<Option<Reply>, OutOfMemory>
+        requires { All ChangeIsWithin block.changes }
         ensures answer { (blocks : List Block) → RepresentsBlocks self.old blocks
-            → IfOk result (λ reply. reply ≡ import_reply blocks block.now) }
+            → IfOk result (λ reply. reply ≡ import_reply blocks block) }
         ensures after { (blocks : List Block) → RepresentsBlocks self.old blocks
-            → IfOk result (λ reply. RepresentsBlocks self.new (blocks_after blocks block.now reply)) }
+            → IfOk result (λ reply. RepresentsBlocks self.new (blocks_after blocks block reply)) }
         ensures err { (blocks : List Block) → RepresentsBlocks self.old blocks
             → OnErr result (RepresentsBlocks self.new blocks) }
     {
@@ -111,9 +111,7 @@ impl BlockMap {
         if siblings >= MOST_SIBLINGS {
             return Ok(None);
         }
-        let state = parent
-            .state
-            .with_changes(self.alloc, block.changes.as_slice())?;
+        let state = parent.state.with_changes(block.changes)?;
         self.add_entry(block.id, BlockEntry { number, state }, siblings + 1)?;
         Ok(Some(Reply::Imported(number)))
     }

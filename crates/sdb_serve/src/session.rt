@@ -83,16 +83,16 @@ fn write_reply(
     Ok(())
 }
 
-fn answer_job(blocks: &mut BlockMap, task: &Task) -> Result<Reply, PlayFault>
-    requires { IsWithin (lines.Job task.now) }
+fn answer_job(blocks: &mut BlockMap, task: Task) -> Result<Reply, PlayFault>
+    requires { IsWithin (lines.Job task) }
     ensures answer { (all : List Block) → RepresentsBlocks blocks.old all → IfOk result (λ reply. (after : List Block)
-        × (answer_job all task.now ≡ Some (reply, after)) × RepresentsBlocks blocks.new after) }
+        × (answer_job all task ≡ Some (reply, after)) × RepresentsBlocks blocks.new after) }
     ensures refused { (all : List Block) → RepresentsBlocks blocks.old all
-        → IsErrOf result PlayFault.NotAnswered → answer_job all task.now ≡ None }
+        → IsErrOf result PlayFault.NotAnswered → answer_job all task ≡ None }
 {
     match task {
-        Task::Read { id, key } => Ok(blocks.read(id, key)?),
-        Task::Root { id } => Ok(blocks.root(id)?),
+        Task::Read { id, key } => Ok(blocks.read(&id, &key)?),
+        Task::Root { id } => Ok(blocks.root(&id)?),
         Task::Import(block) => match blocks.import(block)? {
             Some(reply) => Ok(reply),
             None => Err(PlayFault::NotAnswered),
@@ -126,12 +126,12 @@ impl Session {
         self.lines
     }
 
-    fn answer(&mut self, line: &Line) -> Result<Option<LineReply>, PlayFault>
-        requires { IsWithin line.now }
+    fn answer(&mut self, line: Line) -> Result<Option<LineReply>, PlayFault>
+        requires { IsWithin line }
         ensures answer { (s : SessionState) → Represents self.old s → IfOk result (λ reply. (next : SessionState)
-            × (answer s line.now ≡ Some (reply, next)) × Represents self.new next) }
+            × (answer s line ≡ Some (reply, next)) × Represents self.new next) }
         ensures refused { (s : SessionState) → Represents self.old s → IsErrOf result PlayFault.NotAnswered
-            → answer s line.now ≡ None }
+            → answer s line ≡ None }
         ensures lines { self.new.lines ≡ self.old.lines }
         ensures read { self.new.read ≡ self.old.read }
     {
@@ -152,7 +152,7 @@ impl Session {
                     return Err(PlayFault::NotAnswered);
                 }
                 self.blocks.genesis(block)?;
-                self.window = *window;
+                self.window = window;
                 Ok(Some(LineReply::Genesis))
             }
             Line::Job { task } => {
@@ -181,7 +181,7 @@ impl Session {
             return Err(PlayFault::NotAnswered);
         }
         let parsed = parsed(self.alloc, line)?;
-        let reply = self.answer(&parsed)?;
+        let reply = self.answer(parsed)?;
         write_reply(self.alloc, &reply, text)?;
         self.read += taken;
         self.lines += 1;

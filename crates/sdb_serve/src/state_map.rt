@@ -6,7 +6,7 @@ ghost use Rattle.sdb_model.specs.Trie.{trie_root};
 ghost use Rattle.sdb_model.specs.Limits.{ChangeIsWithin};
 ghost use Rattle.trie_root.specs.Pairs.{KeysRise, entries_of};
 
-use sdb_base::{Bytes, Change, NodeHash, OutOfMemory, Pair, Pairs, TryCopy};
+use sdb_base::{Bytes, Change, Changes, NodeHash, OutOfMemory, Pair, Pairs, TryCopy};
 use std::alloc::Global;
 use std::collections::BTreeMap;
 use std::marker::Model;
@@ -52,38 +52,30 @@ impl StateMap {
     }
 
     /// Sets the key of a change to its value, or deletes it. An `Err` changes nothing.
-    pub(crate) fn change(&mut self, alloc: Global, change: &Change) -> Result<(), OutOfMemory>
-        requires { ChangeIsWithin change.now }
-        ensures ok { OnOk result (self.new ≡ with_key self.old change.now.key change.now.value) }
+    pub(crate) fn change(&mut self, change: Change) -> Result<(), OutOfMemory>
+        requires { ChangeIsWithin change }
+        ensures ok { OnOk result (self.new ≡ with_key self.old change.key change.value) }
         ensures err { OnErr result (self.new ≡ self.old) }
     {
-        match &change.value {
-            None => {
-                let _ = self.entries.remove(&change.key);
-            }
-            Some(value) => {
-                let key = change.key.copy(alloc)?;
-                let value = value.copy(alloc)?;
-                self.entries.insert(key, value)?;
-            }
-        }
+        let Change { key, value, .. } = change;
+        let Some(value) = value else {
+            let _ = self.entries.remove(&key);
+            return Ok(());
+        };
+        self.entries.insert(key, value)?;
         Ok(())
     }
 
     /// The state after these changes, in their order.
-    pub(crate) fn with_changes(
-        &self,
-        alloc: Global,
-        changes: &[Change],
-    ) -> Result<StateMap, OutOfMemory>
-        requires { All ChangeIsWithin changes.now }
-        ensures { IfOk result (λ s. s ≡ apply self.now changes.now) }
+    pub(crate) fn with_changes(&self, changes: Changes) -> Result<StateMap, OutOfMemory>
+        requires { All ChangeIsWithin changes }
+        ensures { IfOk result (λ s. s ≡ apply self.now changes) }
     {
         let mut after = StateMap {
             entries: self.entries.clone()?,
         };
-        for change in changes {
-            after.change(alloc, change)?;
+        for change in changes.into_vec() {
+            after.change(change)?;
         }
         Ok(after)
     }

@@ -1,4 +1,4 @@
-use Rattle.std.proofs.Common.{◌≡◌, ap₂, ◌∙◌, Result, Ok, Err, OnOk}
+use Rattle.std.proofs.Common.{◌≡◌, ap, ◌∙◌, Result, Ok, Err, OnOk}
 use Rattle.sdb_model.specs.State.{apply, no_keys}
 use Rattle.sdb_serve.proofs.Keeping.{represents_genesis}
 use Rattle.sdb_serve.proofs.blocks.BlockMap.genesis.Goals as goal
@@ -9,5 +9,5 @@ both_on_ok (Err e) then p q = tt
 
 pub returns-clause-ok : goal.returns-clause-ok
 returns-clause-ok c represents =
-    let made : c.in_ok-state.state ≡ apply no_keys c.args.block.now.changes = c.in_ok-state.ensures ∙ ap₂ apply c.new-none.ensures c.as_slice.ensures in
-    both_on_ok c.add_entry.result (represents_genesis c.args.self.now c.add_entry.new.self c.args.block.now c.in_ok-state.state represents made) c.add_entry.ensures.added c.add_entry.ensures.levels
+    let made : c.in_ok-state.state ≡ apply no_keys c.args.block.changes = c.in_ok-state.ensures ∙ ap (λ m. apply m c.args.block.changes) c.new-none.ensures in
+    both_on_ok c.add_entry.result (represents_genesis c.args.self.now c.add_entry.new.self c.args.block c.in_ok-state.state represents made) c.add_entry.ensures.added c.add_entry.ensures.levels
