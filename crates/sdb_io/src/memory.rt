@@ -60,8 +60,10 @@ impl Source for MemSource {
         ensures within { IfOk result (λ n. n ≤ length into.old) }
         ensures moved { (bytes : List ℕ) → Some (left_of self.old) ≡ Some bytes → IfOk result (λ n. (n ≤ length bytes)
             × (take n into.new ≡ take n bytes) × (Some (left_of self.new) ≡ Some (drop n bytes))) }
-        ensures end { (bytes : List ℕ) → Some (left_of self.old) ≡ Some bytes → 0 < length into.old → IfOk result (λ n. n ≡ 0 → bytes ≡ []) }
-        ensures kept { (bytes : List ℕ) → Some (left_of self.old) ≡ Some bytes → OnErr result (Some (left_of self.new) ≡ Some bytes) }
+        ensures end { (bytes : List ℕ) → Some (left_of self.old) ≡ Some bytes → 0 < length into.old
+            → IfOk result (λ n. n ≡ 0 → bytes ≡ []) }
+        ensures kept { (bytes : List ℕ) → Some (left_of self.old) ≡ Some bytes
+            → OnErr result (Some (left_of self.new) ≡ Some bytes) }
         ensures counted { CountsFault (is_err result) (failed_takes self.old) (failed_takes self.new) }
         // It fails just where it was told to, and gives as many bytes as there is room for.
         ensures fails { IsErr result ↔ Contains (takes_to_fail self.old) (takes self.old) }
@@ -145,7 +147,8 @@ impl MemSink {
 
     // Adds a piece. An `Err` changes nothing.
     fn add(&mut self, piece: &[u8]) -> Result<(), OutOfMemory>
-        ensures ok { OnOk result ((got_by self.new ≡ got_by self.old ++ piece.now) × (pieces_of self.new ≡ pieces_of self.old ++ piece.now ∷ [])) }
+        ensures ok { OnOk result ((got_by self.new ≡ got_by self.old ++ piece.now)
+            × (pieces_of self.new ≡ pieces_of self.old ++ piece.now ∷ [])) }
         ensures err { OnErr result ((got_by self.new ≡ got_by self.old) × (pieces_of self.new ≡ pieces_of self.old)) }
         ensures told { puts_to_fail self.new ≡ puts_to_fail self.old }
         ensures counts { (puts self.new ≡ puts self.old) × (failed_puts self.new ≡ failed_puts self.old) }
@@ -171,7 +174,8 @@ impl Sink for MemSink {
         ensures counted { CountsFault (is_err result) (failed_puts self.old) (failed_puts self.new) }
         // It fails where it was told to, and else only for want of memory; a call that fails takes nothing.
         ensures fails { Contains (puts_to_fail self.old) (puts self.old) → IsErr result }
-        ensures nothing { OnErr result ((got_by self.new ≡ got_by self.old) × (pieces_of self.new ≡ pieces_of self.old)) }
+        ensures nothing { OnErr result ((got_by self.new ≡ got_by self.old)
+            × (pieces_of self.new ≡ pieces_of self.old)) }
         ensures told { puts_to_fail self.new ≡ puts_to_fail self.old }
         ensures next { puts self.new ≡ one_more (puts self.old) }
     {

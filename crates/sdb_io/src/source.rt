@@ -22,7 +22,8 @@ pub trait Source {
         ensures within { IfOk result (λ n. n ≤ length into.old) }
         ensures moved { (bytes : List ℕ) → left self.old ≡ Some bytes → IfOk result (λ n. (n ≤ length bytes)
             × (take n into.new ≡ take n bytes) × (left self.new ≡ Some (drop n bytes))) }
-        ensures end { (bytes : List ℕ) → left self.old ≡ Some bytes → 0 < length into.old → IfOk result (λ n. n ≡ 0 → bytes ≡ []) }
+        ensures end { (bytes : List ℕ) → left self.old ≡ Some bytes → 0 < length into.old
+            → IfOk result (λ n. n ≡ 0 → bytes ≡ []) }
         ensures kept { (bytes : List ℕ) → left self.old ≡ Some bytes → OnErr result (left self.new ≡ Some bytes) }
         ensures counted { CountsFault (is_err result) (fault_count self.old) (fault_count self.new) };
 

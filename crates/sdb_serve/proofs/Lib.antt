@@ -5,8 +5,10 @@ pub mod Keeping
 pub mod Outputs
 pub mod Lines
 pub mod Running
+pub mod Chunks
 pub mod Halting
 pub mod Closing
+pub mod Verdicts
 pub mod Words
 pub mod Unique
 pub mod Lasting

@@ -30,7 +30,7 @@ first_line_same (x ∷ xs) (y ∷ ys) m n h g e =
     let first : x ≡ y = head_is x y (xs ++ 10 ∷ m) (ys ++ 10 ∷ n) e in
     (ap (λ (c : ℕ). c ∷ xs) first ∙ ap (λ (t : List ℕ). y ∷ t) rest.0, rest.1)
 
--- a line stands in a text that has one
+-- a text that has a line has a line feed
 not_clear : (l m : List ℕ) → HasNoLineFeed (l ++ 10 ∷ m) → ⊥
 not_clear [] m h = clear_head 10 m h refl
 not_clear (x ∷ l) m h = not_clear l m (clear_tail x (l ++ 10 ∷ m) h)
@@ -52,7 +52,7 @@ stuck_some s m stuck e = elim stuck [
   | inr b ↦ b.1 e
 ]
 
--- no line that stands there is answered
+-- no line that is there is answered
 stuck_line : (s : SessionState) (m k n : List ℕ) (out : List (List ℕ)) (next : SessionState) → Stuck s m → HasNoLineFeed k → m ≡ k ++ 10 ∷ n → play_line s k ≡ Some (out, next) → ⊥
 stuck_line s m k n out next stuck clear e f = elim stuck [
   | inl b ↦

@@ -55,7 +55,8 @@ impl BlockMap {
     pub(crate) fn genesis(&mut self, block: &Block) -> Result<(), OutOfMemory>
         requires { All ChangeIsWithin block.now.changes }
         ensures ok { RepresentsBlocks self.old [] → OnOk result (RepresentsBlocks self.new (block.now ∷ [])) }
-        ensures err { (blocks : List Block) → RepresentsBlocks self.old blocks → OnErr result (RepresentsBlocks self.new blocks) }
+        ensures err { (blocks : List Block) → RepresentsBlocks self.old blocks
+            → OnErr result (RepresentsBlocks self.new blocks) }
     {
         let none = StateMap::new(self.alloc);
         let state = none.with_changes(self.alloc, block.changes.as_slice())?;
@@ -95,7 +96,8 @@ impl BlockMap {
             → IfOk result (λ reply. reply ≡ import_reply blocks block.now) }
         ensures after { (blocks : List Block) → RepresentsBlocks self.old blocks
             → IfOk result (λ reply. RepresentsBlocks self.new (blocks_after blocks block.now reply)) }
-        ensures err { (blocks : List Block) → RepresentsBlocks self.old blocks → OnErr result (RepresentsBlocks self.new blocks) }
+        ensures err { (blocks : List Block) → RepresentsBlocks self.old blocks
+            → OnErr result (RepresentsBlocks self.new blocks) }
     {
         let Some(parent) = self.blocks.get(&block.parent) else {
             return Ok(Some(Reply::Refused(Refusal::UnknownParent)));
@@ -133,7 +135,8 @@ impl BlockMap {
     fn add_entry(&mut self, id: BlockId, entry: BlockEntry, count: u32) -> Result<(), OutOfMemory>
         ensures added { OnOk result (Updates id_cmp self.old.blocks self.new.blocks id (Some entry)) }
         ensures levels { OnOk result (self.new.levels.items ≡ with_level self.old.levels.items entry.number count) }
-        ensures err { OnErr result (IsUnchanged self.old.blocks self.new.blocks × (self.new.levels.items ≡ self.old.levels.items)) }
+        ensures err { OnErr result (IsUnchanged self.old.blocks self.new.blocks
+            × (self.new.levels.items ≡ self.old.levels.items)) }
     {
         let level = entry.number as usize;
         self.levels.reserve(1)?;

@@ -72,7 +72,8 @@ fn close<K: Sink>(alloc: Global, sink: &mut K, cause: Cause, lines: u64) -> Stat
 fn run_script<S: Source, K: Sink>(alloc: Global, source: &mut S, sink: &mut K) -> Status
     ensures replies { (input : List ℕ) → S.left source.old ≡ Some input
         → IsRunOf result input (S.left source.new) (K.got sink.old) (K.got sink.new) }
-    ensures done { (input : List ℕ) → S.left source.old ≡ Some input → result ≡ Status.Done → S.left source.new ≡ Some [] }
+    ensures done { (input : List ℕ) → S.left source.old ≡ Some input → result ≡ Status.Done
+        → S.left source.new ≡ Some [] }
     ensures source { result ≢ Status.SinkFault
         → CountsWhere (result ≡ Status.SourceFault) (S.fault_count source.old) (S.fault_count source.new) }
     ensures one_fault { (failed : Bool) × CountsFault failed (S.fault_count source.old) (S.fault_count source.new) }
@@ -106,7 +107,8 @@ pub fn run<S: Source, K: Sink>(alloc: Global, words: &Words, source: &mut S, sin
         → IsRunOf result input (S.left source.new) (K.got sink.old) (K.got sink.new) }
 
     // The source was read to its end.
-    ensures done { (input : List ℕ) → S.left source.old ≡ Some input → result ≡ Status.Done → S.left source.new ≡ Some [] }
+    ensures done { (input : List ℕ) → S.left source.old ≡ Some input → result ≡ Status.Done
+        → S.left source.new ≡ Some [] }
 
     // The run stops at its first fault: a count of faults rises by one for the status that names it, and else none
     // rises; but where the sink fails at the last line for a fault of the source, both rise.
@@ -116,17 +118,22 @@ pub fn run<S: Source, K: Sink>(alloc: Global, words: &Words, source: &mut S, sin
         → CountsFault false (S.fault_count source.old) (S.fault_count source.new) }
     ensures no_sink_fault { result ≢ Status.SinkFault → CountsFault false (K.fault_count sink.old) (K.fault_count sink.new) }
     ensures one_fault { (failed : Bool) × CountsFault failed (S.fault_count source.old) (S.fault_count source.new) }
-    ensures two_faults { words.now ≡ script_words → (input : List ℕ) → S.left source.old ≡ Some input → result ≡ Status.SinkFault
+    ensures two_faults { words.now ≡ script_words → (input : List ℕ) → S.left source.old ≡ Some input
+        → result ≡ Status.SinkFault
         → CountsFault false (S.fault_count source.old) (S.fault_count source.new)
         ⊎ FailsTwice input (S.left source.new) (K.got sink.old) (K.got sink.new) }
 
     // Where no count rose, a script is answered whole, and any other input up to its first bad line, whose number the
     // last line then names, unless memory ran out.
-    ensures completeness { (input : List ℕ) → words.now ≡ script_words → S.left source.old ≡ Some input → IsScript input
-        → ¬ Rose (S.fault_count source.old) (S.fault_count source.new) → ¬ Rose (K.fault_count sink.old) (K.fault_count sink.new)
+    ensures completeness { (input : List ℕ) → words.now ≡ script_words → S.left source.old ≡ Some input
+        → IsScript input
+        → ¬ Rose (S.fault_count source.old) (S.fault_count source.new)
+        → ¬ Rose (K.fault_count sink.old) (K.fault_count sink.new)
         → (result ≡ Status.Done) ⊎ (result ≡ Status.NoMemory) }
-    ensures bad_line { (input : List ℕ) (n : ℕ) → words.now ≡ script_words → S.left source.old ≡ Some input → IsFirstBad input n
-        → ¬ Rose (S.fault_count source.old) (S.fault_count source.new) → ¬ Rose (K.fault_count sink.old) (K.fault_count sink.new)
+    ensures bad_line { (input : List ℕ) (n : ℕ) → words.now ≡ script_words → S.left source.old ≡ Some input
+        → IsFirstBad input n
+        → ¬ Rose (S.fault_count source.old) (S.fault_count source.new)
+        → ¬ Rose (K.fault_count sink.old) (K.fault_count sink.new)
         → (result ≡ Status.Script) ⊎ (result ≡ Status.NoMemory) }
 {
     if is_script(words) {

@@ -2,10 +2,13 @@
 //! sink.
 //!
 //! Today one whole map per block serves the script. Contracts see a run by the lines that it has read: what is
-//! written is the text of their replies and the last line of the status, and each reply is that of the
-//! definitions: a read that of the fold of the key changes from genesis along the block's chain, a root that of
-//! the trie of this fold. The definitions stand in `specs/`: `Jobs`, `SessionState` and `Runs`. Each status comes by
-//! its cause alone. Which words, source and sink there are is left to the program.
+//! written are their reply lines and the last line of the status, each by one call of the sink, and each reply is that
+//! of the definitions: a read that of the fold of the key changes from genesis along the block's chain, a root that of
+//! the trie of this fold. Each status comes by its cause alone, the run stops at its first fault, and no more than
+//! 65,536 bytes beyond the line where it stops are read. A bad line (`Cause::BadLine`) is one that isn't in the
+//! grammar (`LineFault` of the layer below), or that the lines before it refuse (`PlayFault`), or that isn't ended. The
+//! definitions are `Jobs`, `Session`, `Runs` and `Statuses` in `specs/`; `specs/inner` is the crate's own. Which words,
+//! source and sink there are is left to the program.
 #![tactic(auto)]
 
 mod blocks;

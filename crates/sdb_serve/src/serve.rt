@@ -60,9 +60,11 @@ fn answer_lines<K: Sink>(
 ) -> Result<usize, Stop>
     requires within { from ≤ length piece.now }
     requires near { (from ≤ most_in_line) × (length piece.now ≤ from + most_taken) }
-    ensures answered { (input rest : List ℕ) (r : Run) → HasNoLineFeed (take from piece.now) → IsAt r input session.old (piece.now ++ rest)
+    ensures answered { (input rest : List ℕ) (r : Run) → HasNoLineFeed (take from piece.now)
+        → IsAt r input session.old (piece.now ++ rest)
         → IfOk result (λ used. PieceAnswered used piece.now rest r input session.new (K.got sink.old) (K.got sink.new)) }
-    ensures stopped { (input rest : List ℕ) (r : Run) → HasNoLineFeed (take from piece.now) → IsAt r input session.old (piece.now ++ rest)
+    ensures stopped { (input rest : List ℕ) (r : Run) → HasNoLineFeed (take from piece.now)
+        → IsAt r input session.old (piece.now ++ rest)
         → IfErr result (λ stop. Halts stop r input session.new (Some rest) (K.got sink.old) (K.got sink.new)) }
     ensures none_left { HasNoLineFeed (take from piece.now) → IfOk result (λ used. HasNoLineFeed (drop used piece.now)) }
     ensures used { IfOk result (λ used. used ≤ length piece.now) }
@@ -89,7 +91,8 @@ pub(crate) fn read_lines<S: Source, K: Sink>(
 ) -> Stop
     ensures stopped { (input : List ℕ) (r : Run) → S.left source.old ≡ Some input → IsAt r input session.old input
         → Halts result r input session.new (S.left source.new) (K.got sink.old) (K.got sink.new) }
-    ensures to_its_end { (input : List ℕ) → S.left source.old ≡ Some input → result ≡ Stop.Cause Cause.End → S.left source.new ≡ Some [] }
+    ensures to_its_end { (input : List ℕ) → S.left source.old ≡ Some input → result ≡ Stop.Cause Cause.End
+        → S.left source.new ≡ Some [] }
     ensures source { CountsWhere (result ≡ Stop.Cause Cause.Source) (S.fault_count source.old) (S.fault_count source.new) }
     ensures sink { CountsWhere (result ≡ Stop.SinkFault) (K.fault_count sink.old) (K.fault_count sink.new) }
 {
@@ -128,14 +131,16 @@ fn read_more<S: Source>(
     pending: &mut Vec<u8>,
 ) -> Result<usize, Cause>
     requires { 0 < vec_len chunk.old }
-    ensures taken { (bytes : List ℕ) → S.left source.old ≡ Some bytes → IfOk result (λ n. (S.left source.new ≡ Some (drop n bytes))
+    ensures taken { (bytes : List ℕ) → S.left source.old ≡ Some bytes
+        → IfOk result (λ n. (S.left source.new ≡ Some (drop n bytes))
         × (pending.new.items ≡ pending.old.items ++ take n bytes)) }
     ensures end { (bytes : List ℕ) → S.left source.old ≡ Some bytes → IfOk result (λ n. n ≡ 0 → bytes ≡ []) }
     ensures kept { OnOk result (take (vec_len pending.old) pending.new.items ≡ pending.old.items) }
     ensures len { IfOk result (λ n. (vec_len pending.new ≡ vec_len pending.old + n) × (n ≤ vec_len chunk.old)) }
     ensures room { vec_len chunk.new ≡ vec_len chunk.old }
     ensures cause { IfErr result (λ cause. (cause ≡ Cause.Source) ⊎ (cause ≡ Cause.Memory)) }
-    ensures unread { (bytes : List ℕ) → S.left source.old ≡ Some bytes → IsErrOf result Cause.Source → S.left source.new ≡ Some bytes }
+    ensures unread { (bytes : List ℕ) → S.left source.old ≡ Some bytes → IsErrOf result Cause.Source
+        → S.left source.new ≡ Some bytes }
     // Where there is no memory, at most the chunk was taken.
     ensures lost { (bytes : List ℕ) → S.left source.old ≡ Some bytes → IsErrOf result Cause.Memory
         → (n : ℕ) × (n ≤ vec_len chunk.old) × (S.left source.new ≡ Some (drop n bytes)) }

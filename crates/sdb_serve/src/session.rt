@@ -87,7 +87,8 @@ fn answer_job(blocks: &mut BlockMap, task: &Task) -> Result<Reply, PlayFault>
     requires { IsWithin (lines.Job task.now) }
     ensures answer { (all : List Block) → RepresentsBlocks blocks.old all → IfOk result (λ reply. (after : List Block)
         × (answer_job all task.now ≡ Some (reply, after)) × RepresentsBlocks blocks.new after) }
-    ensures refused { (all : List Block) → RepresentsBlocks blocks.old all → IsErrOf result PlayFault.NotAnswered → answer_job all task.now ≡ None }
+    ensures refused { (all : List Block) → RepresentsBlocks blocks.old all
+        → IsErrOf result PlayFault.NotAnswered → answer_job all task.now ≡ None }
 {
     match task {
         Task::Read { id, key } => Ok(blocks.read(id, key)?),
@@ -129,7 +130,8 @@ impl Session {
         requires { IsWithin line.now }
         ensures answer { (s : SessionState) → Represents self.old s → IfOk result (λ reply. (next : SessionState)
             × (answer s line.now ≡ Some (reply, next)) × Represents self.new next) }
-        ensures refused { (s : SessionState) → Represents self.old s → IsErrOf result PlayFault.NotAnswered → answer s line.now ≡ None }
+        ensures refused { (s : SessionState) → Represents self.old s → IsErrOf result PlayFault.NotAnswered
+            → answer s line.now ≡ None }
         ensures lines { self.new.lines ≡ self.old.lines }
         ensures read { self.new.read ≡ self.old.read }
     {
@@ -168,7 +170,8 @@ impl Session {
     pub(crate) fn play_line(&mut self, line: &[u8], text: &mut Vec<u8>) -> Result<(), PlayFault>
         ensures answer { (s : SessionState) → Represents self.old s → OnOk result ((next : SessionState)
             × (play_line s line.now ≡ Some (as_piece text.new.items, next)) × Represents self.new next) }
-        ensures refused { (s : SessionState) → Represents self.old s → IsErrOf result PlayFault.NotAnswered → play_line s line.now ≡ None }
+        ensures refused { (s : SessionState) → Represents self.old s → IsErrOf result PlayFault.NotAnswered
+            → play_line s line.now ≡ None }
         ensures lines { OnOk result (self.new.lines ≡ self.old.lines + 1) }
         ensures read { OnOk result (self.new.read ≡ self.old.read + (length line.now + 1)) }
         ensures stopped { OnErr result (self.new.lines ≡ self.old.lines) }

@@ -7,7 +7,7 @@ pub enum Status {
     Done,
     /// 2: the words aren't the one word `script`.
     Usage,
-    /// 3: a line isn't in the grammar, may not stand where it stands, is too long or isn't ended, would give a number
+    /// 3: a line isn't in the grammar, may not be where it is, is too long or isn't ended, would give a number
     /// its 33rd block, or takes the script past 2^40 bytes.
     Script,
     /// 4: the source failed.

@@ -83,7 +83,7 @@ const STOPPED: [(&str, &str); 12] = [
         "# c||new 0||# x|genesis 01 4|read 1 aa|",
         "new|genesis|stop 3 line 7|",
     ),
-    // lines that may not stand where they stand
+    // lines that may not be where they are
     ("new 0|read 01 aa|", "new|stop 3 line 2|"),
     ("new 0|root 01|", "new|stop 3 line 2|"),
     (

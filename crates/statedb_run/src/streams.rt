@@ -60,7 +60,8 @@ impl<W: Write> Stdout<W> {
     fn write_whole(&mut self, bytes: &[u8]) -> bool
         ensures counts { self.new.faults ≡ self.old.faults }
         ensures written { (before : List ℕ) → W.contents self.old.writer ≡ Some before
-            → (n : ℕ) × (W.contents self.new.writer ≡ Some (before ++ take n bytes.now)) × (result ≡ true → take n bytes.now ≡ bytes.now) }
+            → (n : ℕ) × (W.contents self.new.writer ≡ Some (before ++ take n bytes.now))
+            × (result ≡ true → take n bytes.now ≡ bytes.now) }
     {
         let mut rest = bytes;
         while !rest.is_empty() {

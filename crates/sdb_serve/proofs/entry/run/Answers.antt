@@ -1,4 +1,5 @@
-use Rattle.sdb_serve.proofs.Closing.{a_fault_rose, complete, stops_at_bad}
+use Rattle.sdb_serve.proofs.Closing.{a_fault_rose}
+use Rattle.sdb_serve.proofs.Verdicts.{complete, stops_at_bad}
 use Rattle.sdb_serve.proofs.entry.run.Goals as goal
 
 pub returns-then-is_script-clause-completeness : goal.returns-then-is_script-clause-completeness

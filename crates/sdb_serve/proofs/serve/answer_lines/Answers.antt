@@ -2,7 +2,8 @@ use Rattle.std.proofs.Common.{◌∙◌, arith, refl}
 use Rattle.std.proofs.lemmas.List.Edits.{length-between}
 use Rattle.std.proofs.lemmas.Result.{err_from_is_err_and}
 use Rattle.sdb_serve.proofs.Lines.{clear_front, line_clear, rest_clear}
-use Rattle.sdb_serve.proofs.Running.{begins, piece_goes_on, piece_stops}
+use Rattle.sdb_serve.proofs.Chunks.{begins}
+use Rattle.sdb_serve.proofs.Running.{piece_goes_on, piece_stops}
 use Rattle.sdb_serve.proofs.serve.answer_lines.Goals as goal
 
 pub lines-init : goal.lines-init

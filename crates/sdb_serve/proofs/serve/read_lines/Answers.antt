@@ -4,7 +4,8 @@ use Rattle.sdb_serve.specs.declared.cause.Cause.{Cause}
 use Rattle.sdb_serve.specs.Runs.{HasNoLineFeed}
 use Rattle.sdb_serve.proofs.Answering.{nothing_in}
 use Rattle.sdb_serve.proofs.Halting.{ends, not_ended, reading_fails, too_long}
-use Rattle.sdb_serve.proofs.Running.{chunk_halts, chunk_then, some_is}
+use Rattle.sdb_serve.proofs.Chunks.{chunk_halts, chunk_then}
+use Rattle.sdb_serve.proofs.Running.{some_is}
 use Rattle.sdb_serve.proofs.serve.read_lines.Goals as goal
 
 pub chunks-preserved : goal.chunks-preserved
