@@ -18,9 +18,9 @@ pub returns-clause-next : goal.returns-clause-next
 unfolding nodes_over node_over spelling compact merkle_value H block_words compress digest final_state mixed round rounds state_after state_bytes
 returns-clause-next c = refl
 
-pub returns-clause-with_prefix : goal.returns-clause-with_prefix
+pub returns-clause-beginning_with : goal.returns-clause-beginning_with
 unfolding nodes_over node_over spelling compact merkle_value H block_words compress digest final_state mixed round rounds state_after state_bytes
-returns-clause-with_prefix c = (refl, refl, refl)
+returns-clause-beginning_with c = (refl, refl, refl)
 
 pub returns-clause-walk : goal.returns-clause-walk
 unfolding nodes_over node_over spelling compact merkle_value H block_words compress digest final_state mixed round rounds state_after state_bytes
