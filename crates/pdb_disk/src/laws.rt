@@ -57,7 +57,7 @@ pub fn what_is_read_is_an_image()
 {}
 
 /// What holds at every moment of each call holds at every moment of the calls together. It is stated for what a test
-/// decides; the lemmas of the same names have it for any statement.
+/// decides; the lemmas of the same names in `proofs/Calls` have it for any statement.
 pub fn moments_compose()
     ensures no_call { (t : ℕ) (past : ℕ → Files) (p : Files → Bool) → IsTrue (p (past t))
         → Moments t t past past (λ fs. IsTrue (p fs)) }

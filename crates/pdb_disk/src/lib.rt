@@ -4,7 +4,7 @@
 //! the last sync that succeeded, and the writes and cuts begun after that. An image is what a crash may leave: any
 //! bytes where such a step covers, the kept ones elsewhere. The clock rises with each write, cut and sync, so a caller's
 //! clause can speak of every moment inside its call: `Moments` says that something holds at all of them, and the lemmas
-//! in `proofs/Moments` lead it from one call of a disk to the next. A disk that doesn't tell its content, as a real one,
+//! in `proofs/Calls` lead it from one call of a disk to the next. A disk that doesn't tell its content, as a real one,
 //! promises its counts alone. That a real disk keeps this is left to whoever makes one.
 #![tactic(auto)]
 

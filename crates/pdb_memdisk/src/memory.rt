@@ -109,7 +109,7 @@ impl MemDisk {
         Ok(())
     }
 
-    /// Makes every call fail after the first `k`, counted in the same way.
+    /// Makes every call fail after the first `k`, counted in the same way. At first `k` is 2^64 - 1, where the count stops.
     pub fn fuse(&mut self, k: u64)
         ensures set { fuse_of self.new ≡ k }
         ensures listed { to_fail self.new ≡ to_fail self.old }

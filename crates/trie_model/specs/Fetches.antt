@@ -19,15 +19,15 @@ abbrev pub next_of : List (List ℕ) → List ℕ → Option (List ℕ)
 next_of keys key = find (λ k. is_lt (slice_cmp nat_cmp key k)) keys
 
 -- those of some keys that begin with a prefix
-abbrev pub with_prefix : List (List ℕ) → List ℕ → List (List ℕ)
-with_prefix keys prefix = filter (λ k. starts_with nat_eq k prefix) keys
+abbrev pub beginning_with : List (List ℕ) → List ℕ → List (List ℕ)
+beginning_with keys prefix = filter (λ k. starts_with nat_eq k prefix) keys
 
 -- a state's least key above a key, and its keys that begin with a prefix, rising
 abbrev pub next_key : State → List ℕ → Option (List ℕ)
 next_key m key = next_of (keys_of_state m) key
 
 abbrev pub keys_with_prefix : State → List ℕ → List (List ℕ)
-keys_with_prefix m prefix = with_prefix (keys_of_state m) prefix
+keys_with_prefix m prefix = beginning_with (keys_of_state m) prefix
 
 -- whether a node's path begins these nibbles
 abbrev pub on_the_way : List ℕ → PathNode → Bool

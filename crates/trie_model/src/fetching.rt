@@ -1,6 +1,6 @@
 ghost use Rattle.std.specs.Prelude.{◌≡◌, ◌∷◌, ◌++◌, [], Some, None};
 ghost use Rattle.trie_model.specs.Example.{high_entries, keys_in, low_entries, merged_entries, middle_entries, paths_of, suffixes_in};
-ghost use Rattle.trie_model.specs.Fetches.{for_change, for_next, for_read, for_walk, next_of, with_prefix};
+ghost use Rattle.trie_model.specs.Fetches.{for_change, for_next, for_read, for_walk, next_of, beginning_with};
 ghost use Rattle.trie_model.specs.Nodes.{all_over, nodes_without, stored_over};
 
 /// The nodes of a state of a dozen keys by their paths, and those of them that are stored, computed.
@@ -22,8 +22,8 @@ pub fn known_fetches()
         × (next_of (keys_in low_entries) [] ≡ Some (0x10 ∷ [])) }
     ensures next { paths_of (for_next (stored_over (suffixes_in (low_entries ++ (middle_entries ++ high_entries)))) (0x10 ∷ (0x20 ∷ [])) (Some (0x20 ∷ [])))
         ≡ [] ∷ ((1 ∷ []) ∷ ((2 ∷ []) ∷ [])) }
-    ensures with_prefix { (with_prefix (keys_in (low_entries ++ middle_entries)) (0x20 ∷ []) ≡ keys_in middle_entries)
-        × (with_prefix (keys_in low_entries) (0x10 ∷ (0x00 ∷ [])) ≡ (0x10 ∷ (0x00 ∷ [])) ∷ []) × (with_prefix (keys_in middle_entries) (0x20 ∷ (0x3f ∷ [])) ≡ []) }
+    ensures beginning_with { (beginning_with (keys_in (low_entries ++ middle_entries)) (0x20 ∷ []) ≡ keys_in middle_entries)
+        × (beginning_with (keys_in low_entries) (0x10 ∷ (0x00 ∷ [])) ≡ (0x10 ∷ (0x00 ∷ [])) ∷ []) × (beginning_with (keys_in middle_entries) (0x20 ∷ (0x3f ∷ [])) ≡ []) }
     ensures walk { paths_of (for_walk (stored_over (suffixes_in (low_entries ++ (middle_entries ++ high_entries)))) (0x20 ∷ (0x3f ∷ [])))
         ≡ [] ∷ ((2 ∷ []) ∷ ((2 ∷ (0 ∷ (3 ∷ []))) ∷ [])) }
     ensures walk_below { paths_of (for_walk (stored_over (suffixes_in (low_entries ++ (middle_entries ++ high_entries)))) (0x20 ∷ []))
