@@ -5,8 +5,12 @@ mod encoding;
 mod gate;
 mod heads;
 mod layout;
+mod put_refs;
+mod record_ref;
 
 pub use encoding::encode;
 pub use gate::{gate_bytes, read_gate};
 pub use heads::{Head, header};
 pub use pdb_model::GateSlot;
+pub use put_refs::{PutRef, put_name};
+pub use record_ref::RecordRef;
