@@ -1,9 +1,9 @@
-ghost use Rattle.std.specs.Prelude.{◌≡◌, ◌≤◌, ◌<◌, ◌^◌, ◌+◌, ◌++◌, ◌∷◌, [], ℕ, List, All, IfSome, IsSomeAnd, MatchOption, drop, length, take};
+ghost use Rattle.std.specs.Prelude.{◌≡◌, ◌≤◌, ◌<◌, ◌^◌, ◌+◌, ◌++◌, ◌∷◌, [], ℕ, List, All, IfSome, IfNone, IsSomeAnd, MatchOption, drop, length, take};
 ghost use Rattle.std.specs.Int.{w16, w64, to_le_bytes};
 ghost use Rattle.pdb_cells.specs.Puts.{IsWholeCell};
 ghost use Rattle.pdb_cells.specs.declared.Put.{Put};
 ghost use Rattle.pdb_model.specs.Records.{body_bytes, put_bytes};
-ghost use Rattle.pdb_record.specs.Scans.{put_of};
+ghost use Rattle.pdb_record.specs.Scans.{IsFurther, IsNextOf, Leaves, put_of};
 
 use crate::encoding::BEFORE_CELL;
 use pdb_cells::{CellName, size};
@@ -18,6 +18,27 @@ pub struct PutRef<'a> {
     pub name: CellName,
     /// Its bytes.
     pub bytes: &'a [u8],
+}
+
+/// The puts of a record that are still to come, in their order.
+#[derive(Clone, Copy, Debug)]
+pub struct PutRefs<'a> {
+    pub(crate) left: &'a [u8],
+}
+
+impl<'a> PutRefs<'a> {
+    /// The next put. None exactly where none is left.
+    pub fn next(&mut self) -> Option<PutRef<'a>>
+        ensures more { (p : Put) (ps : List Put) → Leaves self.old (p ∷ ps) → IsSomeAnd result (λ r. put_of r ≡ p) × Leaves self.new ps }
+        ensures end { Leaves self.old [] → result ≡ None }
+        ensures stays { IfNone result (self.new ≡ self.old) }
+        ensures only { IfSome result (λ r. IsWholeCell (put_of r) × (self.old.left.now ≡ put_bytes (put_of r) ++ self.new.left.now)) }
+        ensures place { IfSome result (λ r. IsNextOf r self.old × IsFurther self.new self.old (10 + length r.bytes.now)) }
+    {
+        let put = first_put(self.left)?;
+        self.left = &self.left[BEFORE_CELL + put.bytes.len()..];
+        Some(put)
+    }
 }
 
 /// The file and the index of a put, by its first 10 bytes.
