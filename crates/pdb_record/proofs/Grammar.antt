@@ -1,11 +1,11 @@
 -- Records by their parts: header, body, checksum.
-use Rattle.std.proofs.Common.{◌≡◌, ◌+◌, ◌-◌, ◌^◌, ◌<◌, ◌≤◌, ℕ, List, ◌++◌, length, take, drop, All, refl, sym, ap, ap₂, subst, ◌∙◌, arith, append_assoc, length-append, length-take, length-drop}
+use Rattle.std.proofs.Common.{◌≡◌, ◌+◌, ◌-◌, ◌^◌, ◌<◌, ◌≤◌, ℕ, List, ◌++◌, get_or, length, take, drop, All, refl, sym, ap, ap₂, subst, ◌∙◌, arith, append_assoc, length-append, length-take, length-drop}
 use Rattle.std.specs.Prelude.{slice_range}
 use Rattle.std.proofs.lemmas.List.{take_at, drop_at, take-append-drop, drop-drop, drop-take, length-take-le, take-take}
 use Rattle.pdb_cells.specs.Puts.{IsWholeCell, NoCellTwice}
 use Rattle.pdb_cells.specs.declared.Put.{Put}
 use Rattle.pdb_model.specs.Gates.{checksum, sealed}
-use Rattle.pdb_model.specs.Records.{HasRecord, IsHeader, IsRecord, Record, body_bytes, header_bytes, record_bytes}
+use Rattle.pdb_model.specs.Records.{HasRecord, IsEndOfLog, IsHeader, IsRecord, Record, body_bytes, header_bytes, record_bytes}
 use Rattle.pdb_record.specs.Heads.{IsHeaderOf}
 use Rattle.pdb_record.specs.declared.heads.Head.{Head}
 use Rattle.pdb_record.proofs.Lengths.{checksum_len, header_len}
@@ -107,3 +107,19 @@ seal_found bytes n within is =
         = sym (take-append-drop 8 (drop (48 + n) bytes)) ∙ ap₂ (λ (u v : List ℕ). u ++ v) is tail in
     sym (take-append-drop (48 + n) bytes) ∙ (ap (λ t. take (48 + n) bytes ++ t) back
         ∙ (sym (append_assoc (take (48 + n) bytes) (checksum (take (48 + n) bytes)) (drop (56 + n) bytes)) ∙ ap (λ t. sealed t ++ drop (56 + n) bytes) front))
+
+-- a record's first byte is no zero
+pub not_end : (bytes : List ℕ) (x : Record) → HasRecord bytes 0 x → ¬ IsEndOfLog bytes 0
+unfolding header_bytes
+not_end bytes x has = λ zeros.
+    let p : Parts bytes x = parts bytes x has in
+    let first : get_or (take 48 bytes) 0 0 ≡ 83 = ap (λ t. get_or t 0 0) p.head.spelled in
+    let zero : get_or (take 48 bytes) 0 0 ≡ 0 = zeros 0 0 (omega (arith, length-take-le 48 bytes p.long)) in
+    absurd (omega arith)
+
+-- a record at a place is one at the start of what is left there
+pub has_left : (bytes left : List ℕ) (at : ℕ) (x : Record) → left ≡ drop at bytes → HasRecord bytes at x → HasRecord left 0 x
+has_left bytes left at x e has = record { is = has.is; rest = has.rest; there = e ∙ has.there }
+
+pub has_there : (bytes left : List ℕ) (at : ℕ) (x : Record) → left ≡ drop at bytes → HasRecord left 0 x → HasRecord bytes at x
+has_there bytes left at x e has = record { is = has.is; rest = has.rest; there = sym e ∙ has.there }

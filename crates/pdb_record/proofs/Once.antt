@@ -1,10 +1,10 @@
 -- No cell twice: of puts in front and behind, and by keys.
-use Rattle.std.proofs.Common.{◌≡◌, ◌<◌, ◌≤◌, ◌⊎◌, inl, inr, ⊎_elim, ◌==◌, ◌&&◌, ℕ, Bool, true, false, cond, List, [], ◌∷◌, ◌++◌, length, take, drop, get_or, Option, Some, None, All, refl, sym, ap, ap₂, subst, ◌∙◌, arith}
+use Rattle.std.proofs.Common.{◌≡◌, ◌<◌, ◌≤◌, ◌⊎◌, inl, inr, ⊎_elim, ◌==◌, ◌&&◌, ℕ, Bool, true, false, cond, List, [], ◌∷◌, ◌++◌, length, take, drop, get_or, Option, Some, None, Result, Ok, Err, IfOk, is_ok, All, refl, sym, ap, ap₂, subst, ◌∙◌, arith}
 use Rattle.std.specs.Cmp.{IsTotalOrder, tied_then}
 use Rattle.std.specs.List.{HoldsAt, insert}
-use Rattle.std.specs.List.Sorted.{IsPartitionPoint}
+use Rattle.std.specs.List.Sorted.{IsBinarySearchResult, IsPartitionPoint, IsSearchInRange}
 use Rattle.std.specs.Option.{option_or}
-use Rattle.std.specs.Ordering.{is_eq, nat_cmp, ordering_index, ordering_reverse}
+use Rattle.std.specs.Ordering.{is_eq, is_le, is_some_and, nat_cmp, ordering_index, ordering_reverse, ordering_then, partial_ordering_then}
 use Rattle.std.specs.declared.cmp.Ordering.{Ordering}
 use Rattle.std.specs.declared.cmp.Ordering.TheVariants.{Less, Equal, Greater}
 use Rattle.std.proofs.lemmas.Bool.Decides.{nat_tests}
@@ -12,6 +12,7 @@ use Rattle.std.proofs.lemmas.Cmp.{alike_right, nat_cmp_total, nat_eq_equiv, on_t
 use Rattle.std.proofs.lemmas.List.{take_at, drop_at, take-append-drop}
 use Rattle.std.proofs.lemmas.List.Elements.{All-append, All-cons, All-drop, All-head, All-nil, All-push, All-tail, All-take}
 use Rattle.std.proofs.lemmas.List.Sorted.{IsNonDecreasingBy-insert}
+use Rattle.pdb_cells.specs.Names.{name_cmp}
 use Rattle.pdb_cells.specs.Puts.{NoCellTwice, last_put, same_cell}
 use Rattle.pdb_cells.specs.declared.CellName.{CellName}
 use Rattle.pdb_cells.specs.declared.Put.{Put}
@@ -137,6 +138,31 @@ found_there keys n i within here = λ apart.
     let same : is_key (get_or keys i (key_of n)) n ≡ true = sym (is_eq-key_cmp (get_or keys i (key_of n)) n) ∙ ap is_eq (here (key_of n)) in
     let other : is_key (get_or keys i (key_of n)) n ≡ false = apart i (key_of n) within in
     differ (is_key (get_or keys i (key_of n)) n) same other
+
+-- what a search answers
+pub found_search : (keys : List (ℕ × ℕ)) (n : CellName) (r : Result ℕ ℕ) → IsSearchInRange r (length keys) → IfOk r (HoldsAt (λ m. key_cmp m (key_of n) ≡ Equal) keys)
+    → is_ok r ≡ true → ¬ IsApart n keys
+found_search keys n (Ok i) within here e = found_there keys n i within here
+found_search keys n (Err i) within here e = cc
+
+pub apart_search : (keys : List (ℕ × ℕ)) (n : CellName) (r : Result ℕ ℕ) → Ascends keys → IsBinarySearchResult (λ m. key_cmp m (key_of n)) keys r
+    → is_ok r ≡ false → IsApart n keys
+apart_search keys n (Ok i) ascends here e = cc
+apart_search keys n (Err i) ascends here e = apart_there keys n i (here (ascends (key_of n)))
+
+greater_from_le : (o : Ordering) → is_le o ≡ false → o ≡ Greater
+greater_from_le Less e = cc
+greater_from_le Equal e = cc
+greater_from_le Greater e = refl
+
+le_parts : (o p : Ordering) → is_some_and is_le (partial_ordering_then (Some o) (Some p)) ≡ is_le (ordering_then o p)
+le_parts Less p = refl
+le_parts Equal p = refl
+le_parts Greater p = refl
+
+-- what `<=` says where it doesn't hold
+pub below_from_le : (a b : CellName) → is_some_and is_le (partial_ordering_then (Some (nat_cmp a.file b.file)) (Some (nat_cmp a.index b.index))) ≡ false → name_cmp b a ≡ Less
+below_from_le a b e = flipped (key_of a) (key_of b) (greater_from_le (name_cmp a b) (sym (le_parts (nat_cmp a.file b.file) (nat_cmp a.index b.index)) ∙ e))
 
 -- ---- the keys of puts
 

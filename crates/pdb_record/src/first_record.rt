@@ -1,4 +1,4 @@
-ghost use Rattle.std.specs.Prelude.{◌≡◌, ◌≤◌, ◌+◌, ℕ, List, All, IfNone, IfSome, MatchBool, OnSome, Some, ◌++◌, drop, length, take};
+ghost use Rattle.std.specs.Prelude.{◌≡◌, ◌≤◌, ◌+◌, ℕ, List, All, IfNone, IfSome, IsSomeAnd, MatchBool, OnSome, Some, ◌++◌, drop, length, take};
 ghost use Rattle.pdb_model.specs.Gates.{sealed};
 ghost use Rattle.pdb_model.specs.Records.{HasRecord, IsEndOfLog, Record};
 ghost use Rattle.pdb_record.specs.Heads.{IsHeaderOf};
@@ -40,7 +40,7 @@ fn are_zeros(bytes: &[u8]) -> bool
 
 /// The record with which some bytes begin. None exactly where they begin with none that is whole.
 pub(crate) fn first_record(left: &[u8]) -> Option<RecordRef<'_>>
-    ensures none { IfNone result ((x : Record) → ¬ HasRecord left.now 0 x) }
+    ensures whole { (x : Record) → HasRecord left.now 0 x → IsSomeAnd result (λ r. Shows r x) }
     ensures some { IfSome result (λ r. (x : Record) × HasRecord left.now 0 x × Shows r x) }
     ensures within { IfSome result (λ r. 56 + length r.body.now ≤ length left.now) }
     ensures borrowed { IfSome result (λ r. r.body.ref_ptr ≡ (left.entry.ref_ptr.0, left.entry.ref_ptr.1 + 48)) }
