@@ -20,7 +20,7 @@ pub body-next : (i : ℕ) (ps : List Put) (d : Put) → i < length ps
     → length (body_bytes (take (i + 1) ps)) ≡ length (body_bytes (take i ps)) + (10 + length (get_or ps i d).bytes)
 body-next i ps d within =
     let parts : body_bytes (take (i + 1) ps) ≡ body_bytes (take i ps) ++ body_bytes (get_or ps i d ∷ [])
-        = ap body_bytes (take_more ps i d within) ∙ body-append (take i ps) (get_or ps i d ∷ []) in
+    = ap body_bytes (take_more ps i d within) ∙ body-append (take i ps) (get_or ps i d ∷ []) in
     let one : length (body_bytes (get_or ps i d ∷ [])) ≡ 10 + length (get_or ps i d).bytes = ap length (append-nil (put_bytes (get_or ps i d))) ∙ put-len (get_or ps i d) in
     omega (arith, ap length parts, length-append (body_bytes (take i ps)) (body_bytes (get_or ps i d ∷ [])), one)
 

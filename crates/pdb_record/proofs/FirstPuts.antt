@@ -56,7 +56,7 @@ split_put bytes name n spelled within =
     let body : List ℕ = take (10 + n - 10) (drop 10 bytes) in
     let len : 10 + n - 10 ≡ length body = omega (arith, length-take (10 + n - 10) (drop 10 bytes), length-drop 10 bytes) in
     let back : drop 10 bytes ≡ body ++ drop (10 + length body) bytes
-        = sym (take-append-drop (10 + n - 10) (drop 10 bytes)) ∙ ap (λ t. body ++ t) (drop-drop (10 + n - 10) 10 bytes ∙ ap (λ m. drop (10 + m) bytes) len) in
+    = sym (take-append-drop (10 + n - 10) (drop 10 bytes)) ∙ ap (λ t. body ++ t) (drop-drop (10 + n - 10) 10 bytes ∙ ap (λ m. drop (10 + m) bytes) len) in
     sym (take-append-drop 10 bytes) ∙ (ap (λ f. f ++ drop 10 bytes) (sym spelled) ∙ ap (λ t. (to_le_bytes w16 name.file ++ to_le_bytes w64 name.index) ++ t) back)
 
 -- a whole put's cell is the one read, and so is its size

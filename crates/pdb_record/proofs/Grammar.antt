@@ -33,10 +33,10 @@ parts bytes x has =
     let front : take 48 bytes ≡ h = front_of bytes h (body_bytes x.puts) (checksum (h ++ body_bytes x.puts)) has.rest len is in
     let long : 48 ≤ length bytes = omega (arith, length-take 48 bytes, ap length front, len) in
     record {
-        head = record { spelled = front; is = has.is.header };
-        long = long;
-        rest = has.rest;
-        is = is ∙ ap (λ t. sealed (t ++ body_bytes x.puts) ++ has.rest) (sym front);
+      head = record { spelled = front; is = has.is.header };
+      long = long;
+      rest = has.rest;
+      is = is ∙ ap (λ t. sealed (t ++ body_bytes x.puts) ++ has.rest) (sym front);
     }
 
 pub put_together : (bytes : List ℕ) (h : Head) (ps : List Put) (rest : List ℕ) → IsHeaderOf (take 48 bytes) h → All IsWholeCell ps → NoCellTwice ps
@@ -45,29 +45,36 @@ pub put_together : (bytes : List ℕ) (h : Head) (ps : List Put) (rest : List �
 unfolding record_bytes
 put_together bytes h ps rest head whole once body count is =
     let front : take 48 bytes ≡ header_bytes h.number h.commits (length (body_bytes ps)) (length ps)
-        = head.spelled ∙ ap₂ (λ (b n : ℕ). header_bytes h.number h.commits b n) body count in
+    = head.spelled ∙ ap₂ (λ (b n : ℕ). header_bytes h.number h.commits b n) body count in
     record {
-        is = record {
-            header = record {
-                first = head.is.first;
-                narrow_number = head.is.narrow_number;
-                narrow_commits = head.is.narrow_commits;
-                short = omega (arith, head.is.short, body);
-                narrow_puts = omega (arith, head.is.narrow_puts, count);
-            };
-            whole = whole;
-            once = once;
+      is = record {
+        header = record {
+          first = head.is.first;
+          narrow_number = head.is.narrow_number;
+          narrow_commits = head.is.narrow_commits;
+          short = omega (arith, head.is.short, body);
+          narrow_puts = omega (arith, head.is.narrow_puts, count);
         };
-        rest = rest;
-        there = is ∙ ap (λ t. sealed (t ++ body_bytes ps) ++ rest) front;
+        whole = whole;
+        once = once;
+      };
+      rest = rest;
+      there = is ∙ ap (λ t. sealed (t ++ body_bytes ps) ++ rest) front;
     }
 
 -- how long bytes are that begin with a header, a body and their checksum
 pub sealed_len : (bytes b rest : List ℕ) → 48 ≤ length bytes → bytes ≡ sealed (take 48 bytes ++ b) ++ rest → length bytes ≡ 56 + length b + length rest
 sealed_len bytes b rest long is =
     let c : List ℕ = checksum (take 48 bytes ++ b) in
-    omega (arith, ap length is, length-append ((take 48 bytes ++ b) ++ c) rest, length-append (take 48 bytes ++ b) c, length-append (take 48 bytes) b,
-        length-take-le 48 bytes long, checksum_len (take 48 bytes ++ b))
+    omega (
+      arith,
+      ap length is,
+      length-append ((take 48 bytes ++ b) ++ c) rest,
+      length-append (take 48 bytes ++ b) c,
+      length-append (take 48 bytes) b,
+      length-take-le 48 bytes long,
+      checksum_len (take 48 bytes ++ b),
+    )
 
 -- header and body are the bytes in front
 pub covered : (bytes b rest : List ℕ) (n : ℕ) → 48 ≤ length bytes → length b ≡ n → bytes ≡ sealed (take 48 bytes ++ b) ++ rest → take (48 + n) bytes ≡ take 48 bytes ++ b
@@ -83,16 +90,16 @@ checked bytes b rest n long len is =
     let c : List ℕ = checksum (take 48 bytes ++ b) in
     let size : length (take 48 bytes ++ b) ≡ 48 + n = omega (arith, length-append (take 48 bytes) b, length-take-le 48 bytes long) in
     ap (λ t. take 8 (drop (48 + n) t)) (is ∙ append_assoc (take 48 bytes ++ b) c rest)
-        ∙ (ap (take 8) (drop_at (take 48 bytes ++ b) (c ++ rest) (48 + n) size)
-        ∙ (take_at c rest 8 (checksum_len (take 48 bytes ++ b)) ∙ ap checksum (sym (covered bytes b rest n long len is))))
+    ∙ (ap (take 8) (drop_at (take 48 bytes ++ b) (c ++ rest) (48 + n) size)
+    ∙ (take_at c rest 8 (checksum_len (take 48 bytes ++ b)) ∙ ap checksum (sym (covered bytes b rest n long len is))))
 
 -- of one length there is one body
 pub same_body : (bytes b c r s : List ℕ) → 48 ≤ length bytes → length b ≡ length c → bytes ≡ sealed (take 48 bytes ++ b) ++ r → bytes ≡ sealed (take 48 bytes ++ c) ++ s → b ≡ c
 same_body bytes b c r s long len one other =
     let size : length (take 48 bytes) ≡ 48 = length-take-le 48 bytes long in
     sym (drop_at (take 48 bytes) b 48 size)
-        ∙ (ap (drop 48) (sym (covered bytes b r (length b) long refl one) ∙ covered bytes c s (length b) long (sym len) other)
-        ∙ drop_at (take 48 bytes) c 48 size)
+    ∙ (ap (drop 48) (sym (covered bytes b r (length b) long refl one) ∙ covered bytes c s (length b) long (sym len) other)
+    ∙ drop_at (take 48 bytes) c 48 size)
 
 take_sum : (m n : ℕ) (xs : List ℕ) → take (m + n) xs ≡ take m xs ++ take n (drop m xs)
 take_sum m n xs = sym (take-append-drop m (take (m + n) xs)) ∙ ap₂ (λ (u v : List ℕ). u ++ v) (take-take m (m + n) xs (omega arith)) (drop-take m n xs)
@@ -104,9 +111,9 @@ seal_found bytes n within is =
     let front : take (48 + n) bytes ≡ take 48 bytes ++ take n (drop 48 bytes) = take_sum 48 n bytes in
     let tail : drop 8 (drop (48 + n) bytes) ≡ drop (56 + n) bytes = drop-drop 8 (48 + n) bytes ∙ (let k : 48 + n + 8 ≡ 56 + n = omega arith in ap (λ m. drop m bytes) k) in
     let back : drop (48 + n) bytes ≡ checksum (take (48 + n) bytes) ++ drop (56 + n) bytes
-        = sym (take-append-drop 8 (drop (48 + n) bytes)) ∙ ap₂ (λ (u v : List ℕ). u ++ v) is tail in
+    = sym (take-append-drop 8 (drop (48 + n) bytes)) ∙ ap₂ (λ (u v : List ℕ). u ++ v) is tail in
     sym (take-append-drop (48 + n) bytes) ∙ (ap (λ t. take (48 + n) bytes ++ t) back
-        ∙ (sym (append_assoc (take (48 + n) bytes) (checksum (take (48 + n) bytes)) (drop (56 + n) bytes)) ∙ ap (λ t. sealed t ++ drop (56 + n) bytes) front))
+    ∙ (sym (append_assoc (take (48 + n) bytes) (checksum (take (48 + n) bytes)) (drop (56 + n) bytes)) ∙ ap (λ t. sealed t ++ drop (56 + n) bytes) front))
 
 -- a record's first byte is no zero
 pub not_end : (bytes : List ℕ) (x : Record) → HasRecord bytes 0 x → ¬ IsEndOfLog bytes 0

@@ -31,12 +31,12 @@ pub taken_more : (ps : List Put) (keys : List (ℕ × ℕ)) (it next : PutRefs) 
 taken_more ps keys it next p i taken whole is apart =
     let begins : Begins taken.back p next.left.now = next_of taken.back it p next.left.now taken.left whole is in
     record {
-        front = taken.front ++ p ∷ [];
-        back = begins.others;
-        is = one_more ps taken.front taken.back begins.others p taken.is begins.is;
-        left = record { bytes = begins.left; whole = begins.whole };
-        once = once_push taken.front p taken.once ((taken.covers p.name).0 apart);
-        covers = covers_insert keys taken.front p i taken.covers;
+      front = taken.front ++ p ∷ [];
+      back = begins.others;
+      is = one_more ps taken.front taken.back begins.others p taken.is begins.is;
+      left = record { bytes = begins.left; whole = begins.whole };
+      once = once_push taken.front p taken.once ((taken.covers p.name).0 apart);
+      covers = covers_insert keys taken.front p i taken.covers;
     }
 
 pub taken_twice : (ps : List Put) (keys : List (ℕ × ℕ)) (it : PutRefs) (p : Put) (rest : List ℕ) → Taken ps keys it → IsWholeCell p → it.left.now ≡ put_bytes p ++ rest
@@ -69,11 +69,11 @@ pub looked_more : (ps : List Put) (keys : List (ℕ × ℕ)) (it next : PutRefs)
 looked_more ps keys it next p looked whole is apart =
     let begins : Begins looked.back p next.left.now = next_of looked.back it p next.left.now looked.left whole is in
     record {
-        front = looked.front ++ p ∷ [];
-        back = begins.others;
-        is = one_more ps looked.front looked.back begins.others p looked.is begins.is;
-        left = record { bytes = begins.left; whole = begins.whole };
-        apart = All-push (λ (q : Put). IsApart q.name keys) looked.front p looked.apart apart;
+      front = looked.front ++ p ∷ [];
+      back = begins.others;
+      is = one_more ps looked.front looked.back begins.others p looked.is begins.is;
+      left = record { bytes = begins.left; whole = begins.whole };
+      apart = All-push (λ (q : Put). IsApart q.name keys) looked.front p looked.apart apart;
     }
 
 pub looked_found : (ps : List Put) (keys : List (ℕ × ℕ)) (it : PutRefs) (p : Put) (rest : List ℕ) → LookedUp ps keys it → IsWholeCell p → it.left.now ≡ put_bytes p ++ rest
@@ -104,11 +104,11 @@ decided_none ps it leaves = record { front = []; back = ps; is = refl; left = le
 pub decided_more : (ps : List Put) (it : PutRefs) (keys : List (ℕ × ℕ)) (next : PutRefs) (before : Decided ps it) (taken : Taken before.back keys next)
     → All (λ p. IsApart p.name keys) taken.back → Decided ps next
 decided_more ps it keys next before taken apart = record {
-    front = before.front ++ taken.front;
-    back = taken.back;
-    is = before.is ∙ (ap (λ t. before.front ++ t) taken.is ∙ sym (append_assoc before.front taken.front taken.back));
-    left = taken.left;
-    once = λ once. before.once (subst NoCellTwice (sym taken.is) (once_join taken.front taken.back taken.once once (λ k d within. (taken.covers (get_or taken.back k d).name).0 (apart k d within))));
+  front = before.front ++ taken.front;
+  back = taken.back;
+  is = before.is ∙ (ap (λ t. before.front ++ t) taken.is ∙ sym (append_assoc before.front taken.front taken.back));
+  left = taken.left;
+  once = λ once. before.once (subst NoCellTwice (sym taken.is) (once_join taken.front taken.back taken.once once (λ k d within. (taken.covers (get_or taken.back k d).name).0 (apart k d within))));
 }
 
 pub decided_twice : (ps : List Put) (it : PutRefs) (before : Decided ps it) → ¬ NoCellTwice before.back → ¬ NoCellTwice ps
@@ -142,14 +142,14 @@ pub rising_first : (ps : List Put) (it next : PutRefs) (p : Put) → Leaves it p
 rising_first ps it next p leaves whole is =
     let begins : Begins ps p next.left.now = next_of ps it p next.left.now leaves whole is in
     record {
-        front = [];
-        top = p;
-        back = begins.others;
-        is = begins.is;
-        left = record { bytes = begins.left; whole = begins.whole };
-        name = refl;
-        once = (refl, tt);
-        below = All-nil (λ (q : Put). name_cmp q.name p.name ≡ Less);
+      front = [];
+      top = p;
+      back = begins.others;
+      is = begins.is;
+      left = record { bytes = begins.left; whole = begins.whole };
+      name = refl;
+      once = (refl, tt);
+      below = All-nil (λ (q : Put). name_cmp q.name p.name ≡ Less);
     }
 
 pub rising_more : (ps : List Put) (last : CellName) (it next : PutRefs) (p : Put) → Rising ps last it → IsWholeCell p → it.left.now ≡ put_bytes p ++ next.left.now
@@ -158,18 +158,18 @@ rising_more ps last it next p rising whole is above =
     let begins : Begins rising.back p next.left.now = next_of rising.back it p next.left.now rising.left whole is in
     let top : name_cmp rising.top.name p.name ≡ Less = ap (λ (n : CellName). name_cmp n p.name) rising.name ∙ above in
     let under : All (λ q. name_cmp q.name p.name ≡ Less) rising.front
-        = λ k d within. key_total.trans (key_of (get_or rising.front k d).name) (key_of last) (key_of p.name) (rising.below k d within) above in
+    = λ k d within. key_total.trans (key_of (get_or rising.front k d).name) (key_of last) (key_of p.name) (rising.below k d within) above in
     let below : All (λ q. name_cmp q.name p.name ≡ Less) (rising.front ++ rising.top ∷ [])
-        = All-push (λ (q : Put). name_cmp q.name p.name ≡ Less) rising.front rising.top under top in
+    = All-push (λ (q : Put). name_cmp q.name p.name ≡ Less) rising.front rising.top under top in
     record {
-        front = rising.front ++ rising.top ∷ [];
-        top = p;
-        back = begins.others;
-        is = one_more ps (rising.front ++ rising.top ∷ []) rising.back begins.others p rising.is begins.is;
-        left = record { bytes = begins.left; whole = begins.whole };
-        name = refl;
-        once = once_push (rising.front ++ rising.top ∷ []) p rising.once (λ k d within. lower (get_or (rising.front ++ rising.top ∷ []) k d).name p.name (below k d within));
-        below = below;
+      front = rising.front ++ rising.top ∷ [];
+      top = p;
+      back = begins.others;
+      is = one_more ps (rising.front ++ rising.top ∷ []) rising.back begins.others p rising.is begins.is;
+      left = record { bytes = begins.left; whole = begins.whole };
+      name = refl;
+      once = once_push (rising.front ++ rising.top ∷ []) p rising.once (λ k d within. lower (get_or (rising.front ++ rising.top ∷ []) k d).name p.name (below k d within));
+      below = below;
     }
 
 pub rising_all : (ps : List Put) (last : CellName) (it : PutRefs) → Rising ps last it → Stops it.left.now → NoCellTwice ps

@@ -47,14 +47,14 @@ pub last_none : (ps : List Put) (n : CellName) → IsNew n ps → last_put ps n 
 last_none [] n new = refl
 last_none (p ∷ ps) n new =
     ap₂ (λ (o : Option (List ℕ)) (t : Bool). option_or o (cond t (Some p.bytes) None))
-        (last_none ps n (All-tail (λ (q : Put). same_cell q.name n ≡ false) p ps new)) (All-head (λ (q : Put). same_cell q.name n ≡ false) p ps new)
+    (last_none ps n (All-tail (λ (q : Put). same_cell q.name n ≡ false) p ps new)) (All-head (λ (q : Put). same_cell q.name n ≡ false) p ps new)
 
 pub new_last : (ps : List Put) (n : CellName) → last_put ps n ≡ None → IsNew n ps
 new_last [] n e = All-nil (λ (q : Put). same_cell q.name n ≡ false)
 new_last (p ∷ ps) n e = ⊎_elim
     (λ here. absurd (never_none (last_put ps n) p.bytes (sym (ap (λ (t : Bool). option_or (last_put ps n) (cond t (Some p.bytes) None)) here) ∙ e)))
     (λ other. All-cons (λ (q : Put). same_cell q.name n ≡ false) p ps other
-        (new_last ps n (sym (or_none (last_put ps n)) ∙ (sym (ap (λ (t : Bool). option_or (last_put ps n) (cond t (Some p.bytes) None)) other) ∙ e))))
+    (new_last ps n (sym (or_none (last_put ps n)) ∙ (sym (ap (λ (t : Bool). option_or (last_put ps n) (cond t (Some p.bytes) None)) other) ∙ e))))
     (true_or_false (same_cell p.name n))
 
 pub once_back : (f b : List Put) → NoCellTwice (f ++ b) → NoCellTwice b
@@ -72,9 +72,10 @@ pub once_join : (f b : List Put) → NoCellTwice f → NoCellTwice b → All (λ
 once_join [] b front back apart = back
 once_join (x ∷ f) b front back apart =
     let behind : IsNew x.name b = λ k d within. same_cell-flip (get_or b k d).name x.name ∙ All-head (λ (q : Put). same_cell q.name (get_or b k d).name ≡ false) x f (apart k d within) in
-    let inside : IsNew x.name f = new_last f x.name front.0 in
-    (last_none (f ++ b) x.name (All-append (λ (q : Put). same_cell q.name x.name ≡ false) f b inside behind),
-        once_join f b front.1 back (λ k d within. All-tail (λ (q : Put). same_cell q.name (get_or b k d).name ≡ false) x f (apart k d within)))
+    let inside : IsNew x.name f = new_last f x.name front.0 in (
+      last_none (f ++ b) x.name (All-append (λ (q : Put). same_cell q.name x.name ≡ false) f b inside behind),
+      once_join f b front.1 back (λ k d within. All-tail (λ (q : Put). same_cell q.name (get_or b k d).name ≡ false) x f (apart k d within)),
+    )
 
 pub once_push : (f : List Put) (p : Put) → NoCellTwice f → IsNew p.name f → NoCellTwice (f ++ p ∷ [])
 once_push f p front new = once_join f (p ∷ []) front (refl, tt) (All-cons (λ (q : Put). IsNew q.name f) p [] new (All-nil (λ (q : Put). IsNew q.name f)))
@@ -173,12 +174,13 @@ pub covers_insert : (keys : List (ℕ × ℕ)) (front : List Put) (p : Put) (i :
 covers_insert keys front p i covers n =
     let P : ℕ × ℕ → Type 0 = λ k. is_key k n ≡ false in
     let Q : Put → Type 0 = λ q. same_cell q.name n ≡ false in
-    let k : ℕ × ℕ = key_of p.name in
-    ((λ apart.
-        let right : All P (k ∷ drop i keys) = all_right P (take i keys) (k ∷ drop i keys) apart in
-        let both : All P (take i keys ++ drop i keys) = All-append P (take i keys) (drop i keys) (all_left P (take i keys) (k ∷ drop i keys) apart) (All-tail P k (drop i keys) right) in
-        All-push Q front p ((covers n).0 (subst (All P) (take-append-drop i keys) both)) (All-head P k (drop i keys) right)),
-     (λ new.
-        let all : All P keys = (covers n).1 (all_left Q front (p ∷ []) new) in
-        All-append P (take i keys) (k ∷ drop i keys) (All-take P i keys all)
-            (All-cons P k (drop i keys) (All-head Q p [] (all_right Q front (p ∷ []) new)) (All-drop P i keys all))))
+    let k : ℕ × ℕ = key_of p.name in (
+      (λ apart.
+          let right : All P (k ∷ drop i keys) = all_right P (take i keys) (k ∷ drop i keys) apart in
+          let both : All P (take i keys ++ drop i keys) = All-append P (take i keys) (drop i keys) (all_left P (take i keys) (k ∷ drop i keys) apart) (All-tail P k (drop i keys) right) in
+          All-push Q front p ((covers n).0 (subst (All P) (take-append-drop i keys) both)) (All-head P k (drop i keys) right)),
+      (λ new.
+          let all : All P keys = (covers n).1 (all_left Q front (p ∷ []) new) in
+          All-append P (take i keys) (k ∷ drop i keys) (All-take P i keys all)
+          (All-cons P k (drop i keys) (All-head Q p [] (all_right Q front (p ∷ []) new)) (All-drop P i keys all))),
+    )

@@ -91,10 +91,10 @@ counted_none body = record { seen = []; is = refl; whole = All-nil IsWholeCell; 
 
 pub counted_more : (body bytes next : List ℕ) (count : ℕ) (p : Put) → Counted body bytes count → IsWholeCell p → bytes ≡ put_bytes p ++ next → Counted body next (count + 1)
 counted_more body bytes next count p so_far whole is = record {
-    seen = so_far.seen ++ p ∷ [];
-    is = so_far.is ∙ (ap (λ t. body_bytes so_far.seen ++ t) is ∙ (sym (append_assoc (body_bytes so_far.seen) (put_bytes p) next) ∙ ap (λ t. t ++ next) (sym (body-push so_far.seen p))));
-    whole = All-push IsWholeCell so_far.seen p so_far.whole whole;
-    number = ap (λ n. n + 1) so_far.number ∙ sym (length_push so_far.seen p);
+  seen = so_far.seen ++ p ∷ [];
+  is = so_far.is ∙ (ap (λ t. body_bytes so_far.seen ++ t) is ∙ (sym (append_assoc (body_bytes so_far.seen) (put_bytes p) next) ∙ ap (λ t. t ++ next) (sym (body-push so_far.seen p))));
+  whole = All-push IsWholeCell so_far.seen p so_far.whole whole;
+  number = ap (λ n. n + 1) so_far.number ∙ sym (length_push so_far.seen p);
 }
 
 pub counted_bound : (body bytes : List ℕ) (count : ℕ) → Counted body bytes count → 10 * count ≤ length body

@@ -24,7 +24,8 @@ pub struct Scanner<'a> {
 
 impl<'a> Scanner<'a> {
     ghost use Rattle.std.specs.Prelude.{◌+◌};
-    ghost use Rattle.pdb_model.specs.Records.{HasRecord, Record, record_bytes};
+    ghost use Rattle.pdb_model.specs.Records.{HasRecord, IsEndOfLog, Record, record_bytes};
+    ghost use Rattle.pdb_record.specs.declared.scanner.Scan.TheVariants.{End};
     ghost use Rattle.pdb_record.specs.Scans.{BodyIsAt, GoesOn, IfWhole, IsScan, Shows, WholeAnd, place, scanned};
 
     /// A scanner of these bytes from a place on, at most their end.
@@ -40,6 +41,7 @@ impl<'a> Scanner<'a> {
     pub fn next(&mut self) -> Scan<'a>
         ensures answer { IsScan result self.old }
         ensures found { (x : Record) → HasRecord (scanned self.old) (place self.old) x → WholeAnd result (λ r. Shows r x) × (place self.new ≡ place self.old + length (record_bytes x)) }
+        ensures ended { IsEndOfLog (scanned self.old) (place self.old) → result ≡ End }
         ensures goes_on { GoesOn result self.old self.new }
         ensures borrowed { IfWhole result (λ r. BodyIsAt r self.old (place self.old + 48)) }
     {

@@ -1,4 +1,4 @@
-use Rattle.std.proofs.Common.{◌≡◌, ◌+◌, ◌==◌, ℕ, List, [], Some, true, length, ap, ◌∙◌, arith}
+use Rattle.std.proofs.Common.{◌≡◌, ◌==◌, [], Some, true, length, ap, ◌∙◌, arith}
 use Rattle.pdb_record.specs.Scans.{put_of}
 use Rattle.pdb_record.specs.declared.put_refs.PutRefs.{PutRefs}
 use Rattle.pdb_record.proofs.Splits.{Stops, counted_all, counted_bound, counted_more}

@@ -1,4 +1,4 @@
-use Rattle.std.proofs.Common.{◌≡◌, ◌≤◌, ℕ, length, take, sym, ap, ◌∙◌, arith, length-take}
+use Rattle.std.proofs.Common.{length, ap, arith, length-take}
 use Rattle.pdb_record.proofs.Lengths.{header_len}
 use Rattle.pdb_record.proofs.first_record.first_head.Goals as goal
 

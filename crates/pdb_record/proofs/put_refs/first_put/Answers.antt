@@ -1,9 +1,6 @@
-use Rattle.std.proofs.Common.{◌≡◌, ◌≤◌, ◌+◌, ◌++◌, ◌∷◌, [], ℕ, List, Some, None, Option, drop, length, take, refl, sym, ap, ◌∙◌, arith, ◌-◌, length-take, length-drop}
-use Rattle.pdb_cells.specs.Puts.{IsWholeCell}
+use Rattle.std.proofs.Common.{◌≡◌, ◌≤◌, ◌+◌, Some, drop, length, take, sym, ap, ◌∙◌, arith, ◌-◌, length-take, length-drop}
 use Rattle.pdb_cells.specs.Sizes.{size_of}
 use Rattle.pdb_cells.specs.declared.CellName.{CellName}
-use Rattle.pdb_cells.specs.declared.Put.{Put}
-use Rattle.pdb_model.specs.Records.{put_bytes}
 use Rattle.pdb_record.proofs.FirstPuts.{none_some, one_body, one_name, same_size, split_put, whole_len}
 use Rattle.pdb_record.proofs.put_refs.first_put.Goals.{then-name-ge-END_OF_INDEXES-via-then-name-ge-END_OF_INDEXES, then-name-ge-END_OF_INDEXES-via-else-name-ge-END_OF_INDEXES+then-size-bytes}
 use Rattle.pdb_record.proofs.put_refs.first_put.Goals as goal
@@ -36,6 +33,7 @@ returns-clause-whole c p rest is whole =
 pub returns-clause-only : goal.returns-clause-only
 returns-clause-only c =
     let within : 10 + c.in-Some.size ≤ length c.args.bytes.now = omega (arith, c.if-size-bytes.false) in
-    let len : c.in-Some.size ≡ length (take (10 + c.in-Some.size - 10) (drop 10 c.args.bytes.now)) = omega (arith, length-take (10 + c.in-Some.size - 10) (drop 10 c.args.bytes.now), length-drop 10 c.args.bytes.now) in
-    ((sym c.size.ensures ∙ c.in-Some.is ∙ ap Some len, omega (arith, c.if-name-ge-END_OF_INDEXES.false)),
-        split_put c.args.bytes.now c.put_name-name.result c.in-Some.size (c.put_name-name.ensures.bytes ∙ c.front.ensures) within)
+    let len : c.in-Some.size ≡ length (take (10 + c.in-Some.size - 10) (drop 10 c.args.bytes.now)) = omega (arith, length-take (10 + c.in-Some.size - 10) (drop 10 c.args.bytes.now), length-drop 10 c.args.bytes.now) in (
+      (sym c.size.ensures ∙ c.in-Some.is ∙ ap Some len, omega (arith, c.if-name-ge-END_OF_INDEXES.false)),
+      split_put c.args.bytes.now c.put_name-name.result c.in-Some.size (c.put_name-name.ensures.bytes ∙ c.front.ensures) within,
+    )

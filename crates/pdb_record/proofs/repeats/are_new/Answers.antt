@@ -1,4 +1,4 @@
-use Rattle.std.proofs.Common.{◌≡◌, List, true, false, is_ok, sym, ◌∙◌}
+use Rattle.std.proofs.Common.{◌≡◌, true, false, is_ok, sym, ◌∙◌}
 use Rattle.pdb_record.specs.Scans.{put_of}
 use Rattle.pdb_record.specs.inner.Blocks.{IsApart}
 use Rattle.pdb_record.proofs.Loops.{looked_all, looked_found, looked_more}

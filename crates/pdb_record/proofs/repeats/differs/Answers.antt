@@ -1,4 +1,4 @@
-use Rattle.std.proofs.Common.{◌≡◌, ℕ, List, [], All, length, sym, subst, ◌∙◌}
+use Rattle.std.proofs.Common.{◌≡◌, ℕ, List, All, length, sym, subst, ◌∙◌}
 use Rattle.std.proofs.lemmas.Bool.{eqb-true}
 use Rattle.std.proofs.lemmas.List.{nil_from_length}
 use Rattle.pdb_cells.specs.declared.Put.{Put}
@@ -18,7 +18,7 @@ returns-then-not-fill c ps leaves =
       | then-not-fill-via-else-not-fill+then-not-are_new w ↦
           let taken : Taken before.back c.fill.new.block.items c.fill.new.puts = w.if-not-fill.ensures.takes before.back before.left in
           decided_twice ps c.loop-left.left before (taken_seen before.back c.fill.new.block.items c.fill.new.puts taken
-              (subst (λ (ks : List (ℕ × ℕ)). ¬ All (λ (p : Put). IsApart p.name ks) taken.back) w.as_slice.ensures.value (w.if-not-are_new.ensures taken.back taken.left)))
+          (subst (λ (ks : List (ℕ × ℕ)). ¬ All (λ (p : Put). IsApart p.name ks) taken.back) w.as_slice.ensures.value (w.if-not-are_new.ensures taken.back taken.left)))
     ]
 
 pub loop-left-preserved : goal.loop-left-preserved
@@ -26,7 +26,7 @@ loop-left-preserved c ps leaves =
     let before : Decided ps c.loop-left.left = c.loop-left.invariant ps leaves in
     let taken : Taken before.back c.fill.new.block.items c.fill.new.puts = c.if-not-fill.ensures.takes before.back before.left in
     decided_more ps c.loop-left.left c.fill.new.block.items c.fill.new.puts before taken
-        (subst (λ (ks : List (ℕ × ℕ)). All (λ (p : Put). IsApart p.name ks) taken.back) c.as_slice.ensures.value (c.if-not-are_new.ensures taken.back taken.left))
+    (subst (λ (ks : List (ℕ × ℕ)). All (λ (p : Put). IsApart p.name ks) taken.back) c.as_slice.ensures.value (c.if-not-are_new.ensures taken.back taken.left))
 
 pub returns : goal.returns
 returns c ps leaves =

@@ -16,14 +16,15 @@ returns-in_default-clause-takes c ps leaves once =
 pub returns-then-not-add_name-clause-takes : goal.returns-then-not-add_name-clause-takes
 returns-then-not-add_name-clause-takes c ps leaves =
     taken_twice ps c.loop-puts.block.items c.loop-puts.puts (put_of c.in-Some.put) c.next.new.self.left.now (c.loop-puts.invariant.0 ps leaves)
-        c.in-Some.ensures.only.0 c.in-Some.ensures.only.1 c.if-not-add_name.ensures.apart
+    c.in-Some.ensures.only.0 c.in-Some.ensures.only.1 c.if-not-add_name.ensures.apart
 
 pub loop-puts-preserved : goal.loop-puts-preserved
 loop-puts-preserved c =
     let added = c.if-not-add_name.ensures.added in
-    let len = whole_len c.loop-puts.puts.left.now c.next.new.self.left.now (put_of c.in-Some.put) c.in-Some.ensures.only.1 in
-    ((λ ps leaves. subst (λ (ks : List (ℕ × ℕ)). Taken ps ks c.next.new.self) (sym added.1)
-        (taken_more ps c.loop-puts.block.items c.loop-puts.puts c.next.new.self (put_of c.in-Some.put) added.0 (c.loop-puts.invariant.0 ps leaves)
-            c.in-Some.ensures.only.0 c.in-Some.ensures.only.1 c.if-not-add_name.ensures.apart)),
-     c.add_name.ensures.ascends,
-     omega (arith, len, c.if-not-add_name.ensures.len, c.loop-puts.invariant.2))
+    let len = whole_len c.loop-puts.puts.left.now c.next.new.self.left.now (put_of c.in-Some.put) c.in-Some.ensures.only.1 in (
+      (λ ps leaves. subst (λ (ks : List (ℕ × ℕ)). Taken ps ks c.next.new.self) (sym added.1)
+          (taken_more ps c.loop-puts.block.items c.loop-puts.puts c.next.new.self (put_of c.in-Some.put) added.0 (c.loop-puts.invariant.0 ps leaves)
+          c.in-Some.ensures.only.0 c.in-Some.ensures.only.1 c.if-not-add_name.ensures.apart)),
+      c.add_name.ensures.ascends,
+      omega (arith, len, c.if-not-add_name.ensures.len, c.loop-puts.invariant.2),
+    )

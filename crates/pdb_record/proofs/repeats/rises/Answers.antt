@@ -1,4 +1,4 @@
-use Rattle.std.proofs.Common.{◌≡◌, List, sym, subst, ◌∙◌}
+use Rattle.std.proofs.Common.{sym, subst, ◌∙◌}
 use Rattle.pdb_cells.specs.Puts.{NoCellTwice}
 use Rattle.pdb_record.specs.Scans.{put_of}
 use Rattle.pdb_record.proofs.Loops.{rising_all, rising_first, rising_more}
@@ -17,7 +17,7 @@ loop-put-init c ps leaves = rising_first ps c.args.puts c.next.new.self (put_of 
 pub loop-put-preserved : goal.loop-put-preserved
 loop-put-preserved c ps leaves =
     rising_more ps c.loop-put.last c.loop-put.left c.next-in-loop-put.new.self (put_of c.in-Some-next.put) (c.loop-put.invariant ps leaves)
-        c.in-Some-next.ensures.only.0 c.in-Some-next.ensures.only.1 (below_from_le c.in-Some-next.put.name c.loop-put.last (sym c.le.ensures ∙ c.if-le.false))
+    c.in-Some-next.ensures.only.0 c.in-Some-next.ensures.only.1 (below_from_le c.in-Some-next.put.name c.loop-put.last (sym c.le.ensures ∙ c.if-le.false))
 
 pub returns : goal.returns
 returns c ps leaves =

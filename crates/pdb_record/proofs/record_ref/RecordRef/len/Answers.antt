@@ -1,6 +1,4 @@
-use Rattle.std.proofs.Common.{◌≡◌, ◌+◌, length, sym, ap, ◌∙◌, arith}
-use Rattle.pdb_model.specs.Records.{Record, record_bytes}
-use Rattle.pdb_record.specs.Scans.{Shows}
+use Rattle.std.proofs.Common.{length, ap, arith}
 use Rattle.pdb_record.proofs.Lengths.{record_len}
 use Rattle.pdb_record.proofs.record_ref.RecordRef.len.Goals as goal
 

@@ -17,14 +17,23 @@ returns-then-is_end-clause-found c x has =
 pub returns-in_default-clause-answer : goal.returns-in_default-clause-answer
 returns-in_default-clause-answer c =
     let left : List ℕ = rest_of c.args.self.now.bytes.now c.args.self.now.at in
-    let same : left ≡ drop c.args.self.now.at c.args.self.now.bytes.now = take_rest c.args.self.now.bytes.now c.args.self.now.at in
-    ((λ x has. c.in_default.ensures.whole x (has_left c.args.self.now.bytes.now left c.args.self.now.at x same has)),
-     (λ ended. c.if-is_end.ensures (subst (λ (bytes : List ℕ). All (λ b. b ≡ 0) (take 48 bytes)) (sym same) ended)))
+    let same : left ≡ drop c.args.self.now.at c.args.self.now.bytes.now = take_rest c.args.self.now.bytes.now c.args.self.now.at in (
+      (λ x has. c.in_default.ensures.whole x (has_left c.args.self.now.bytes.now left c.args.self.now.at x same has)),
+      (λ ended. c.if-is_end.ensures (subst (λ (bytes : List ℕ). All (λ b. b ≡ 0) (take 48 bytes)) (sym same) ended)),
+    )
 
 pub returns-in_default-clause-found : goal.returns-in_default-clause-found
 returns-in_default-clause-found c x has =
     let left : List ℕ = rest_of c.args.self.now.bytes.now c.args.self.now.at in
     absurd (c.in_default.ensures.whole x (has_left c.args.self.now.bytes.now left c.args.self.now.at x (take_rest c.args.self.now.bytes.now c.args.self.now.at) has))
+
+pub returns-in_default-clause-ended : goal.returns-in_default-clause-ended
+returns-in_default-clause-ended c ended =
+    absurd (c.if-is_end.ensures (subst (λ (bytes : List ℕ). All (λ b. b ≡ 0) (take 48 bytes)) (sym (take_rest c.args.self.now.bytes.now c.args.self.now.at)) ended))
+
+pub returns-clause-ended : goal.returns-clause-ended
+returns-clause-ended c ended =
+    absurd (c.if-is_end.ensures (subst (λ (bytes : List ℕ). All (λ b. b ≡ 0) (take 48 bytes)) (sym (take_rest c.args.self.now.bytes.now c.args.self.now.at)) ended))
 
 pub returns-clause-answer : goal.returns-clause-answer
 returns-clause-answer c =
@@ -36,5 +45,5 @@ pub returns-clause-found : goal.returns-clause-found
 returns-clause-found c x has =
     let left : List ℕ = rest_of c.args.self.now.bytes.now c.args.self.now.at in
     let shows : Shows c.in-Some.found x
-        = c.in-Some.ensures.whole x (has_left c.args.self.now.bytes.now left c.args.self.now.at x (take_rest c.args.self.now.bytes.now c.args.self.now.at) has) in
+    = c.in-Some.ensures.whole x (has_left c.args.self.now.bytes.now left c.args.self.now.at x (take_rest c.args.self.now.bytes.now c.args.self.now.at) has) in
     (shows, ap (λ n. c.args.self.now.at + n) (c.len.ensures x shows))
