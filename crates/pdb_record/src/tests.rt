@@ -125,18 +125,32 @@ fn the_log_ends_at_zeros(rt: HostRuntime) -> Result<(), Fail> {
     Ok(())
 }
 
-// the bytes of a record with one of them changed, and with its checksums right again where `resealed`
+// a record with the checksum of its header right
+fn head_sealed(bytes: &[u8; 130]) -> [u8; 130] {
+    let head = checksum(&bytes[..40]);
+    let mut sealed = *bytes;
+    sealed[40..48].copy_from_slice(&head);
+    sealed
+}
+
+// a record with its last checksum right
+fn end_sealed(bytes: &[u8; 130]) -> [u8; 130] {
+    let end = checksum(&bytes[..122]);
+    let mut sealed = *bytes;
+    sealed[122..].copy_from_slice(&end);
+    sealed
+}
+
+// the record of one slot with a byte changed, and with its checksums right again where `resealed`
 fn changed(rt: &impl Abort, at: usize, byte: u8, resealed: bool) -> [u8; 130] {
     let mut bytes = ONE_SLOT;
     assert!(rt; at < 130);
     bytes[at] = byte;
     if resealed {
-        let head = checksum(&bytes[..40]);
-        bytes[40..48].copy_from_slice(&head);
-        let end = checksum(&bytes[..122]);
-        bytes[122..].copy_from_slice(&end);
+        end_sealed(&head_sealed(&bytes))
+    } else {
+        bytes
     }
-    bytes
 }
 
 #[test]
