@@ -1,4 +1,4 @@
--- No cell twice: of puts in front and behind, and by keys.
+-- No cell twice: of puts before and after, and by keys.
 use Rattle.std.proofs.Common.{◌≡◌, ◌<◌, ◌≤◌, ◌⊎◌, inl, inr, ⊎_elim, ◌==◌, ◌&&◌, ℕ, Bool, true, false, cond, List, [], ◌∷◌, ◌++◌, length, take, drop, get_or, Option, Some, None, Result, Ok, Err, IfOk, is_ok, All, refl, sym, ap, ap₂, subst, ◌∙◌, arith}
 use Rattle.std.specs.Cmp.{IsTotalOrder, tied_then}
 use Rattle.std.specs.List.{HoldsAt, insert}
@@ -61,7 +61,7 @@ pub once_back : (f b : List Put) → NoCellTwice (f ++ b) → NoCellTwice b
 once_back [] b once = once
 once_back (x ∷ f) b once = once_back f b once.1
 
--- the cells of puts behind are none of those in front
+-- the cells of later puts are none of those before
 pub once_apart : (f b : List Put) → NoCellTwice (f ++ b) → All (λ p. IsNew p.name f) b
 once_apart [] b once = λ k d within. All-nil (λ (q : Put). same_cell q.name (get_or b k d).name ≡ false)
 once_apart (x ∷ f) b once = λ k d within.
@@ -71,9 +71,9 @@ once_apart (x ∷ f) b once = λ k d within.
 pub once_join : (f b : List Put) → NoCellTwice f → NoCellTwice b → All (λ p. IsNew p.name f) b → NoCellTwice (f ++ b)
 once_join [] b front back apart = back
 once_join (x ∷ f) b front back apart =
-    let behind : IsNew x.name b = λ k d within. same_cell-flip (get_or b k d).name x.name ∙ All-head (λ (q : Put). same_cell q.name (get_or b k d).name ≡ false) x f (apart k d within) in
+    let later : IsNew x.name b = λ k d within. same_cell-flip (get_or b k d).name x.name ∙ All-head (λ (q : Put). same_cell q.name (get_or b k d).name ≡ false) x f (apart k d within) in
     let inside : IsNew x.name f = new_last f x.name front.0 in (
-      last_none (f ++ b) x.name (All-append (λ (q : Put). same_cell q.name x.name ≡ false) f b inside behind),
+      last_none (f ++ b) x.name (All-append (λ (q : Put). same_cell q.name x.name ≡ false) f b inside later),
       once_join f b front.1 back (λ k d within. All-tail (λ (q : Put). same_cell q.name (get_or b k d).name ≡ false) x f (apart k d within)),
     )
 

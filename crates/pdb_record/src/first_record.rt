@@ -1,8 +1,8 @@
-ghost use Rattle.std.specs.Prelude.{◌≡◌, ◌≤◌, ◌+◌, ℕ, List, All, IfNone, IfSome, IsSomeAnd, MatchBool, OnSome, Some, ◌++◌, drop, length, take};
-ghost use Rattle.pdb_model.specs.Gates.{sealed};
+ghost use Rattle.std.specs.Prelude.{◌≡◌, ◌≤◌, ◌+◌, ℕ, List, All, IfNone, IfSome, IsSomeAnd, MatchBool, OnSome, Some, drop, length, take};
 ghost use Rattle.pdb_model.specs.Records.{HasRecord, IsEndOfLog, Record};
 ghost use Rattle.pdb_record.specs.Heads.{IsHeaderOf};
 ghost use Rattle.pdb_record.specs.Scans.{Shows};
+ghost use Rattle.pdb_record.specs.inner.Sealing.{IsSealed};
 ghost use Rattle.pdb_record.specs.declared.heads.Head.{Head};
 
 use crate::counting::count_puts;
@@ -76,8 +76,8 @@ fn first_head(left: &[u8]) -> Option<Head>
 /// The body of so many bytes after a header. None exactly where the bytes end too early, or the checksum of header and
 /// body doesn't come after it.
 fn sealed_body(left: &[u8], len: u64) -> Option<&[u8]>
-    ensures none { IfNone result ((body rest : List ℕ) → length body ≡ len → 48 ≤ length left.now → ¬ (left.now ≡ sealed (take 48 left.now ++ body) ++ rest)) }
-    ensures some { IfSome result (λ b. left.now ≡ sealed (take 48 left.now ++ b.now) ++ drop (56 + len) left.now) }
+    ensures none { IfNone result ((body rest : List ℕ) → length body ≡ len → 48 ≤ length left.now → ¬ IsSealed left.now body rest) }
+    ensures some { IfSome result (λ b. IsSealed left.now b.now (drop (56 + len) left.now)) }
     ensures within { IfSome result (λ b. (length b.now ≡ len) × (56 + len ≤ length left.now)) }
     ensures borrowed { IfSome result (λ b. b.ref_ptr ≡ (left.entry.ref_ptr.0, left.entry.ref_ptr.1 + 48)) }
 {
@@ -85,8 +85,8 @@ fn sealed_body(left: &[u8], len: u64) -> Option<&[u8]>
         return None;
     }
     let end = HEADER + len as usize;
-    let told = &left[end..end + CHECKSUM];
-    if told == checksum(&left[..end]).as_slice() {
+    let stored = &left[end..end + CHECKSUM];
+    if stored == checksum(&left[..end]).as_slice() {
         Some(&left[HEADER..end])
     } else {
         None

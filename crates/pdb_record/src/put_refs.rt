@@ -3,7 +3,7 @@ ghost use Rattle.std.specs.Int.{w16, w64, to_le_bytes};
 ghost use Rattle.pdb_cells.specs.Puts.{IsWholeCell};
 ghost use Rattle.pdb_cells.specs.declared.Put.{Put};
 ghost use Rattle.pdb_model.specs.Records.{body_bytes, put_bytes};
-ghost use Rattle.pdb_record.specs.Scans.{IsFurther, IsNextOf, Leaves, put_of};
+ghost use Rattle.pdb_record.specs.Scans.{IsFurther, IsNextOf, IsTaken, Leaves, put_of};
 
 use crate::encoding::BEFORE_CELL;
 use pdb_cells::{CellName, size};
@@ -29,11 +29,12 @@ pub struct PutRefs<'a> {
 impl<'a> PutRefs<'a> {
     /// The next put. None exactly where none is left.
     pub fn next(&mut self) -> Option<PutRef<'a>>
-        ensures more { (p : Put) (ps : List Put) → Leaves self.old (p ∷ ps) → IsSomeAnd result (λ r. put_of r ≡ p) × Leaves self.new ps }
+        ensures more { (p : Put) (ps : List Put) → Leaves self.old (p ∷ ps) → IsSomeAnd result (λ r. put_of r ≡ p) }
+        ensures later { (p : Put) (ps : List Put) → Leaves self.old (p ∷ ps) → Leaves self.new ps }
         ensures end { Leaves self.old [] → result ≡ None }
         ensures stays { IfNone result (self.new ≡ self.old) }
-        ensures only { IfSome result (λ r. IsWholeCell (put_of r) × (self.old.left.now ≡ put_bytes (put_of r) ++ self.new.left.now)) }
-        ensures place { IfSome result (λ r. IsNextOf r self.old × IsFurther self.new self.old (10 + length r.bytes.now)) }
+        ensures only { IfSome result (λ r. IsTaken r self.old self.new) }
+        ensures place { IfSome result (λ r. IsNextOf r self.old × IsFurther self.old self.new (10 + length r.bytes.now)) }
     {
         let put = first_put(self.left)?;
         self.left = &self.left[BEFORE_CELL + put.bytes.len()..];

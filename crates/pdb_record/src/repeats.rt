@@ -1,11 +1,11 @@
-ghost use Rattle.std.specs.Prelude.{◌≡◌, ◌≤◌, ◌<◌, ◌+◌, ℕ, List, [], All, MatchBool, length};
+ghost use Rattle.std.specs.Prelude.{◌≡◌, ◌≤◌, ◌<◌, ◌+◌, ℕ, List, [], MatchBool, length};
 ghost use Rattle.std.specs.Bool.{OnTrue};
 ghost use Rattle.std.specs.List.{insert};
 ghost use Rattle.arrayvec.specs.ArrayVec.{array_vec_len};
 ghost use Rattle.pdb_cells.specs.Puts.{NoCellTwice};
 ghost use Rattle.pdb_cells.specs.declared.Put.{Put};
 ghost use Rattle.pdb_record.specs.Scans.{Leaves};
-ghost use Rattle.pdb_record.specs.inner.Blocks.{Ascends, IsApart, Taken, key_of};
+ghost use Rattle.pdb_record.specs.inner.Blocks.{AreApart, Ascends, IsApart, Taken, key_of};
 
 use crate::put_refs::PutRefs;
 use arrayvec::ArrayVec;
@@ -97,7 +97,7 @@ fn add_name(block: &mut Block, name: CellName) -> bool
 /// Whether none of the puts has one of these names.
 fn are_new(names: &[(u16, u64)], puts: PutRefs<'_>) -> bool
     requires { Ascends names.now }
-    ensures { (ps : List Put) → Leaves puts.entry ps → MatchBool result (All (λ p. IsApart p.name names.now) ps) (¬ All (λ p. IsApart p.name names.now) ps) }
+    ensures { (ps : List Put) → Leaves puts.entry ps → MatchBool result (AreApart names.now ps) (¬ AreApart names.now ps) }
 {
     let mut left = puts;
     while let Some(put) = left.next() {

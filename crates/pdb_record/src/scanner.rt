@@ -24,9 +24,9 @@ pub struct Scanner<'a> {
 
 impl<'a> Scanner<'a> {
     ghost use Rattle.std.specs.Prelude.{◌+◌};
-    ghost use Rattle.pdb_model.specs.Records.{HasRecord, IsEndOfLog, Record, record_bytes};
+    ghost use Rattle.pdb_model.specs.Records.{IsEndOfLog, Record};
     ghost use Rattle.pdb_record.specs.declared.scanner.Scan.TheVariants.{End};
-    ghost use Rattle.pdb_record.specs.Scans.{BodyIsAt, GoesOn, IfWhole, IsScan, Shows, WholeAnd, place, scanned};
+    ghost use Rattle.pdb_record.specs.Scans.{BodyIsAt, GoesOn, HasHere, IfWhole, IsPast, IsScan, Shows, WholeAnd, place, scanned};
 
     /// A scanner of these bytes from a place on, at most their end.
     pub fn new(bytes: &'a [u8], at: usize) -> Scanner<'a>
@@ -37,10 +37,10 @@ impl<'a> Scanner<'a> {
         Scanner { bytes, at }
     }
 
-    /// What there is at this place. After a whole record the scanner has come to the byte behind it.
+    /// What there is at this place. After a whole record the scanner has come to the byte after it.
     pub fn next(&mut self) -> Scan<'a>
         ensures answer { IsScan result self.old }
-        ensures found { (x : Record) → HasRecord (scanned self.old) (place self.old) x → WholeAnd result (λ r. Shows r x) × (place self.new ≡ place self.old + length (record_bytes x)) }
+        ensures found { (x : Record) → HasHere self.old x → WholeAnd result (λ r. Shows r x) × IsPast x self.old self.new }
         ensures ended { IsEndOfLog (scanned self.old) (place self.old) → result ≡ End }
         ensures goes_on { GoesOn result self.old self.new }
         ensures borrowed { IfWhole result (λ r. BodyIsAt r self.old (place self.old + 48)) }

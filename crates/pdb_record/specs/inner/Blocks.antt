@@ -28,6 +28,10 @@ Ascends keys = (k : ℕ × ℕ) → IsNonDecreasingBy (λ m. ordering_index (key
 abbrev pub IsApart : CellName → List (ℕ × ℕ) → Type 0
 IsApart n keys = All (λ k. is_key k n ≡ false) keys
 
+-- no key of these is the cell's of one of these puts
+abbrev pub AreApart : List (ℕ × ℕ) → List Put → Type 0
+AreApart keys puts = All (λ p. IsApart p.name keys) puts
+
 -- no put of these is of that cell
 abbrev pub IsNew : CellName → List Put → Type 0
 IsNew n puts = All (λ p. same_cell p.name n ≡ false) puts

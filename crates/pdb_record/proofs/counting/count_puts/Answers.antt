@@ -13,12 +13,12 @@ loop-put-preserved c = counted_more c.args.body.now c.loop-put.puts.left.now c.n
 
 pub returns-then-is_empty-clause-whole : goal.returns-then-is_empty-clause-whole
 returns-then-is_empty-clause-whole c ps is whole =
-    let stops : Stops c.loop-put.puts.left.now = λ p qs e w. (c.in_default.ensures.more p qs (record { bytes = e; whole = w })).0 in
+    let stops : Stops c.loop-put.puts.left.now = λ p qs e w. c.in_default.ensures.more p qs (record { bytes = e; whole = w }) in
     ap Some (counted_all c.args.body.now c.loop-put.puts.left.now c.loop-put.count ps c.loop-put.invariant stops is whole).1
 
 pub returns-else-is_empty-clause-whole : goal.returns-else-is_empty-clause-whole
 returns-else-is_empty-clause-whole c ps is whole =
-    let stops : Stops c.loop-put.puts.left.now = λ p qs e w. (c.in_default.ensures.more p qs (record { bytes = e; whole = w })).0 in
+    let stops : Stops c.loop-put.puts.left.now = λ p qs e w. c.in_default.ensures.more p qs (record { bytes = e; whole = w }) in
     let empty : c.loop-put.puts.left.now ≡ [] = (counted_all c.args.body.now c.loop-put.puts.left.now c.loop-put.count ps c.loop-put.invariant stops is whole).0 in
     let none : length c.next.new.self.left.now ≡ 0 = ap (λ (it : PutRefs). length it.left.now) c.in_default.ensures.stays ∙ ap length empty in
     let ended : c.is_empty.result ≡ true = c.is_empty.ensures ∙ ap (λ n. n == 0) none in

@@ -17,10 +17,10 @@ pub returns-then-eq-clause-some : goal.returns-then-eq-clause-some
 returns-then-eq-clause-some c =
     let left : List ℕ = c.args.left.now in
     let n : ℕ = c.args.len in
-    let told : take (48 + n + 8 - (48 + n)) (drop (48 + n) left) ≡ c.as_slice.result.now = (bytes_eq-Decides _ _).0 (sym c.eq.ensures ∙ c.if-eq.true) in
+    let stored : take (48 + n + 8 - (48 + n)) (drop (48 + n) left) ≡ c.as_slice.result.now = (bytes_eq-Decides _ _).0 (sym c.eq.ensures ∙ c.if-eq.true) in
     let eight : 8 ≡ 48 + n + 8 - (48 + n) = omega arith in
     let is : take 8 (drop (48 + n) left) ≡ checksum (take (48 + n) left)
-    = ap (λ m. take m (drop (48 + n) left)) eight ∙ (told ∙ (c.as_slice.ensures ∙ c.checksum.ensures)) in
+    = ap (λ m. take m (drop (48 + n) left)) eight ∙ (stored ∙ (c.as_slice.ensures ∙ c.checksum.ensures)) in
     let within : 56 + c.args.len ≤ length c.args.left.now = omega (arith, c.if-len-left.false, c.if-left-lt-AROUND_BODY.false) in
     let own : c.args.len ≡ 48 + c.args.len - 48 = omega arith in
     seal_found left n within is ∙ ap (λ m. sealed (take 48 left ++ take m (drop 48 left)) ++ drop (56 + n) left) own
@@ -30,7 +30,7 @@ returns-else-eq-clause-none c body rest len long is =
     let left : List ℕ = c.args.left.now in
     let n : ℕ = c.args.len in
     let eight : 48 + n + 8 - (48 + n) ≡ 8 = omega arith in
-    let told : take (48 + n + 8 - (48 + n)) (drop (48 + n) left) ≡ c.as_slice.result.now
+    let stored : take (48 + n + 8 - (48 + n)) (drop (48 + n) left) ≡ c.as_slice.result.now
     = ap (λ m. take m (drop (48 + n) left)) eight ∙ (checked left body rest n long len is ∙ sym (c.as_slice.ensures ∙ c.checksum.ensures)) in
-    let equal : c.eq.result ≡ true = c.eq.ensures ∙ (bytes_eq-Decides _ _).1 told in
+    let equal : c.eq.result ≡ true = c.eq.ensures ∙ (bytes_eq-Decides _ _).1 stored in
     cc

@@ -20,5 +20,5 @@ loop-put-preserved c ps leaves =
 
 pub returns : goal.returns
 returns c ps leaves =
-    let stops : Stops c.loop-put.left.left.now = λ p qs e w. (c.in_default.ensures.more p qs (record { bytes = e; whole = w })).0 in
+    let stops : Stops c.loop-put.left.left.now = λ p qs e w. c.in_default.ensures.more p qs (record { bytes = e; whole = w }) in
     looked_all ps c.args.names.now c.loop-put.left (c.loop-put.invariant ps leaves) stops

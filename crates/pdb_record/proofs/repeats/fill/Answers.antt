@@ -8,7 +8,7 @@ use Rattle.pdb_record.proofs.repeats.fill.Goals as goal
 
 pub returns-in_default-clause-takes : goal.returns-in_default-clause-takes
 returns-in_default-clause-takes c ps leaves once =
-    let stops : Stops c.loop-puts.puts.left.now = λ p qs e w. (c.in_default.ensures.more p qs (record { bytes = e; whole = w })).0 in
+    let stops : Stops c.loop-puts.puts.left.now = λ p qs e w. c.in_default.ensures.more p qs (record { bytes = e; whole = w }) in
     let empty : c.loop-puts.puts.left.now ≡ [] = taken_stops ps c.loop-puts.block.items c.loop-puts.puts (c.loop-puts.invariant.0 ps leaves) stops in
     let ended : c.is_empty.result ≡ true = c.is_empty.ensures ∙ ap (λ n. n == 0) (ap length empty) in
     cc

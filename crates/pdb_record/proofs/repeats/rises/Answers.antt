@@ -8,7 +8,7 @@ use Rattle.pdb_record.proofs.repeats.rises.Goals as goal
 
 pub returns-in_default : goal.returns-in_default
 returns-in_default c ps leaves =
-    let stops : Stops c.args.puts.left.now = λ p qs e w. (c.in_default.ensures.more p qs (record { bytes = e; whole = w })).0 in
+    let stops : Stops c.args.puts.left.now = λ p qs e w. c.in_default.ensures.more p qs (record { bytes = e; whole = w }) in
     subst NoCellTwice (sym (stopped ps c.args.puts.left.now stops leaves.bytes leaves.whole)) tt
 
 pub loop-put-init : goal.loop-put-init
@@ -21,5 +21,5 @@ loop-put-preserved c ps leaves =
 
 pub returns : goal.returns
 returns c ps leaves =
-    let stops : Stops c.loop-put.left.left.now = λ p qs e w. (c.in_default-next.ensures.more p qs (record { bytes = e; whole = w })).0 in
+    let stops : Stops c.loop-put.left.left.now = λ p qs e w. c.in_default-next.ensures.more p qs (record { bytes = e; whole = w }) in
     rising_all ps c.loop-put.last c.loop-put.left (c.loop-put.invariant ps leaves) stops
