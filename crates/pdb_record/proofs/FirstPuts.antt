@@ -1,13 +1,12 @@
 -- The put with which a body begins.
-use Rattle.std.proofs.Common.{◌≡◌, ◌≢◌, ◌⊎◌, ◌+◌, ◌-◌, ◌==◌, ◌^◌, ◌<◌, ◌≤◌, ℕ, List, [], ◌∷◌, ◌++◌, length, take, drop, nat_lt, true, false, Some, None, Option, slice_get, refl, sym, ap, ◌∙◌, ⊎_elim, arith, length-take, length-drop, length-append}
-use Rattle.std.specs.Prelude.{slice_range}
+use Rattle.std.proofs.Common.{◌≡◌, ◌⊎◌, ◌+◌, ◌-◌, ◌==◌, ◌^◌, ◌<◌, ◌≤◌, ℕ, List, ◌++◌, length, take, drop, nat_lt, false, Some, None, Option, slice_get, refl, sym, ap, ◌∙◌, ⊎_elim, arith, length-take, length-drop, length-append}
 use Rattle.std.specs.Int.{w16, w64, to_le_bytes, from_le_bytes}
 use Rattle.std.proofs.lemmas.Bool.Decides.{nat_tests}
 use Rattle.std.proofs.lemmas.Nat.{from_le_bytes-to_le_bytes_2, from_le_bytes-to_le_bytes_8}
 use Rattle.std.proofs.lemmas.Option.{slice_get_past}
 use Rattle.std.proofs.lemmas.List.{take-append-drop, take_at, drop-drop}
 use Rattle.pdb_cells.specs.Puts.{IsWholeCell}
-use Rattle.pdb_cells.specs.Sizes.{column_size_of, head_file, size_of, slot_sizes}
+use Rattle.pdb_cells.specs.Sizes.{head_file, size_of, slot_sizes}
 use Rattle.pdb_cells.specs.declared.CellName.{CellName}
 use Rattle.pdb_cells.specs.declared.Put.{Put}
 use Rattle.pdb_model.specs.Records.{put_bytes}

@@ -1,11 +1,10 @@
 -- Records by their parts: header, body, checksum.
-use Rattle.std.proofs.Common.{◌≡◌, ◌+◌, ◌-◌, ◌^◌, ◌<◌, ◌≤◌, ℕ, List, ◌++◌, get_or, length, take, drop, All, refl, sym, ap, ap₂, subst, ◌∙◌, arith, append_assoc, length-append, length-take, length-drop}
-use Rattle.std.specs.Prelude.{slice_range}
+use Rattle.std.proofs.Common.{◌≡◌, ◌+◌, ◌≤◌, ℕ, List, ◌++◌, get_or, length, take, drop, All, refl, sym, ap, ap₂, ◌∙◌, arith, append_assoc, length-append, length-take}
 use Rattle.std.proofs.lemmas.List.{take_at, drop_at, take-append-drop, drop-drop, drop-take, length-take-le, take-take}
 use Rattle.pdb_cells.specs.Puts.{IsWholeCell, NoCellTwice}
 use Rattle.pdb_cells.specs.declared.Put.{Put}
 use Rattle.pdb_model.specs.Gates.{checksum, sealed}
-use Rattle.pdb_model.specs.Records.{HasRecord, IsEndOfLog, IsHeader, IsRecord, Record, body_bytes, header_bytes, record_bytes}
+use Rattle.pdb_model.specs.Records.{HasRecord, IsEndOfLog, Record, body_bytes, header_bytes, record_bytes}
 use Rattle.pdb_record.specs.Heads.{IsHeaderOf}
 use Rattle.pdb_record.specs.declared.heads.Head.{Head}
 use Rattle.pdb_record.proofs.Lengths.{checksum_len, header_len}

@@ -1,7 +1,7 @@
 -- What the loops over puts keep.
-use Rattle.std.proofs.Common.{◌≡◌, false, ℕ, List, [], ◌∷◌, ◌++◌, length, get_or, All, refl, sym, ap, subst, ◌∙◌, append_assoc, append-nil}
+use Rattle.std.proofs.Common.{◌≡◌, false, ℕ, List, [], ◌∷◌, ◌++◌, get_or, All, refl, sym, ap, subst, ◌∙◌, append_assoc, append-nil}
 use Rattle.std.specs.List.{insert}
-use Rattle.std.proofs.lemmas.List.Elements.{All-append, All-cons, All-head, All-nil, All-push}
+use Rattle.std.proofs.lemmas.List.Elements.{All-head, All-nil, All-push}
 use Rattle.std.specs.Ordering.{is_eq}
 use Rattle.std.specs.declared.cmp.Ordering.TheVariants.{Less}
 use Rattle.pdb_cells.specs.Names.{name_cmp}
@@ -11,8 +11,8 @@ use Rattle.pdb_cells.specs.declared.Put.{Put}
 use Rattle.pdb_model.specs.Records.{body_bytes, put_bytes}
 use Rattle.pdb_record.specs.Scans.{Leaves}
 use Rattle.pdb_record.specs.declared.put_refs.PutRefs.{PutRefs}
-use Rattle.pdb_record.specs.inner.Blocks.{Covers, IsApart, IsNew, Taken, key_cmp, key_of}
-use Rattle.pdb_record.proofs.Once.{all_left, all_right, covers_insert, covers_none, is_eq-key_cmp, key_total, once_apart, once_back, once_join, once_push}
+use Rattle.pdb_record.specs.inner.Blocks.{IsApart, IsNew, Taken, key_of}
+use Rattle.pdb_record.proofs.Once.{all_right, covers_insert, covers_none, is_eq-key_cmp, key_total, once_apart, once_back, once_join, once_push}
 use Rattle.pdb_record.proofs.Splits.{Begins, Stops, begins_with, none_left, stopped}
 
 one_more : {X : Type 0} (xs ys zs ws : List X) (x : X) → xs ≡ ys ++ zs → zs ≡ x ∷ ws → xs ≡ (ys ++ x ∷ []) ++ ws

@@ -1,14 +1,10 @@
 -- A body of whole cells is spelled by one list of puts.
-use Rattle.std.proofs.Common.{◌≡◌, ◌+◌, ◌*◌, ◌^◌, ◌<◌, ◌≤◌, ℕ, List, [], ◌∷◌, ◌++◌, length, take, drop, All, refl, sym, ap, ap₂, ◌∙◌, arith, append_assoc, append-nil, length-append}
-use Rattle.std.specs.Int.{w16, w64, to_le_bytes}
+use Rattle.std.proofs.Common.{◌≡◌, ◌+◌, ◌*◌, ◌<◌, ◌≤◌, ℕ, List, [], ◌∷◌, ◌++◌, length, take, drop, All, refl, sym, ap, ap₂, ◌∙◌, arith, append_assoc, append-nil, length-append}
 use Rattle.std.proofs.lemmas.List.{take_at, drop_at, length_push}
-use Rattle.std.proofs.lemmas.List.Elements.{All-cons, All-head, All-nil, All-push, All-tail}
+use Rattle.std.proofs.lemmas.List.Elements.{All-head, All-nil, All-push, All-tail}
 use Rattle.pdb_cells.specs.Puts.{IsWholeCell}
-use Rattle.pdb_cells.specs.declared.CellName.{CellName}
 use Rattle.pdb_cells.specs.declared.Put.{Put}
 use Rattle.pdb_model.specs.Records.{body_bytes, put_bytes}
-use Rattle.pdb_record.specs.Scans.{Leaves}
-use Rattle.pdb_record.specs.declared.put_refs.PutRefs.{PutRefs}
 use Rattle.pdb_record.proofs.Bodies.{body-append}
 use Rattle.pdb_record.proofs.FirstPuts.{one_name, same_size, small_file}
 

@@ -1,5 +1,5 @@
 -- What a scanner answers, and what is borrowed of a record.
-use Rattle.std.specs.Prelude.{◌≡◌, ℕ, ◌+◌, List, ◌++◌, length, drop, All}
+use Rattle.std.specs.Prelude.{◌≡◌, ℕ, ◌+◌, List, ◌++◌, length, All}
 use Rattle.pdb_cells.specs.Puts.{IsWholeCell}
 use Rattle.pdb_cells.specs.declared.Put.{Put}
 use Rattle.pdb_model.specs.Records.{HasRecord, IsEndOfLog, Record, body_bytes, put_bytes, record_bytes}

@@ -16,7 +16,7 @@ returns-clause-later c p ps leaves =
     let put : put_of c.in_ok-put.put ≡ p = c.in_ok-put.ensures.whole p (body_bytes ps) leaves.bytes (All-head IsWholeCell p ps leaves.whole) in
     let len : length c.in_ok-put.put.bytes.now ≡ length p.bytes = ap (λ (q : Put). length q.bytes) put in
     record {
-        bytes = take_rest c.args.self.now.left.now (10 + length c.in_ok-put.put.bytes.now)
-            ∙ after_put c.args.self.now.left.now (body_bytes ps) p (length c.in_ok-put.put.bytes.now) leaves.bytes len;
-        whole = All-tail IsWholeCell p ps leaves.whole;
+      bytes = take_rest c.args.self.now.left.now (10 + length c.in_ok-put.put.bytes.now)
+          ∙ after_put c.args.self.now.left.now (body_bytes ps) p (length c.in_ok-put.put.bytes.now) leaves.bytes len;
+      whole = All-tail IsWholeCell p ps leaves.whole;
     }

@@ -1,6 +1,5 @@
-use Rattle.std.proofs.Common.{◌≡◌, ◌+◌, ◌-◌, ℕ, List, All, length, take, drop, sym, ap, subst, ◌∙◌}
+use Rattle.std.proofs.Common.{◌≡◌, ◌+◌, ◌-◌, ℕ, List, All, length, take, drop, sym, ap, subst}
 use Rattle.std.proofs.lemmas.List.{take_rest}
-use Rattle.pdb_model.specs.Records.{HasRecord, IsEndOfLog, Record, record_bytes}
 use Rattle.pdb_record.specs.Scans.{Shows}
 use Rattle.pdb_record.proofs.Grammar.{has_left, has_there, not_end}
 use Rattle.pdb_record.proofs.scanner.Scanner.next.Goals as goal
