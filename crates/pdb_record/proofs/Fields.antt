@@ -1,10 +1,10 @@
 -- The numbers in a gate slot and in a header.
-use Rattle.std.proofs.Common.{◌≡◌, ◌+◌, ◌^◌, ◌<◌, ℕ, List, refl, sym, ap, ◌∙◌, arith}
+use Rattle.std.proofs.Common.{◌≡◌, ◌+◌, ◌^◌, ◌<◌, ℕ, List, sym, ap, ◌∙◌, arith}
 use Rattle.std.specs.Prelude.{slice_range}
 use Rattle.std.specs.Int.{w64, to_le_bytes, from_le_bytes}
 use Rattle.std.proofs.lemmas.Nat.{from_le_bytes-to_le_bytes_8}
 use Rattle.pdb_model.specs.Gates.{IsGateSlot, gate_bytes}
-use Rattle.pdb_model.specs.Records.{IsHeader, header_bytes}
+use Rattle.pdb_model.specs.Records.{header_bytes}
 use Rattle.pdb_model.specs.declared.gate_slot.GateSlot.{GateSlot}
 use Rattle.pdb_record.specs.Heads.{IsHeaderOf}
 use Rattle.pdb_record.specs.declared.heads.Head.{Head}

@@ -1,2 +1,8 @@
 pub mod Fields
 pub mod Bodies
+pub mod FirstPuts
+pub mod Lengths
+pub mod Splits
+pub mod Grammar
+pub mod Once
+pub mod Loops

@@ -40,12 +40,7 @@ fn add_put(bytes: &mut Vec<u8>, put: &Put) -> Result<(), OutOfMemory>
 /// cells, none of them twice; it may have none. `commits` is the number of commits in all records up to and with it.
 /// `OutOfMemory` comes only for want of memory.
 #[tactic(auto, unfolding(pdb_model::specs::Records::record_bytes))]
-pub fn encode(
-    alloc: Global,
-    number: u64,
-    commits: u64,
-    puts: &Puts,
-) -> Result<Bytes, OutOfMemory>
+pub fn encode(alloc: Global, number: u64, commits: u64, puts: &Puts) -> Result<Bytes, OutOfMemory>
     requires first { 1 ≤ number }
     requires short { length (body_bytes puts.now) ≤ 2 ^ 62 }
     requires whole { All IsWholeCell puts.now }

@@ -1,6 +1,5 @@
-use Rattle.std.proofs.Common.{◌≡◌, ◌+◌, ◌≤◌, ℕ, List, length, take, get_or, ap, ◌∙◌, arith}
+use Rattle.std.proofs.Common.{◌≡◌, length, get_or, ap, ◌∙◌, arith}
 use Rattle.pdb_cells.specs.declared.Put.{Put}
-use Rattle.pdb_model.specs.Records.{body_bytes}
 use Rattle.pdb_record.proofs.Bodies.{next-within}
 use Rattle.pdb_record.proofs.encoding.body_len.Goals as goal
 
