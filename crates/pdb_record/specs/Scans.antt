@@ -81,7 +81,7 @@ IsScan End s = IsEndOfLog (scanned s) (place s)
 IsScan Torn s = ((x : Record) → ¬ HasHere s x) × ¬ IsEndOfLog (scanned s) (place s)
 
 -- The scanned bytes are the same after it, and after End and Torn so is the scanner.
-abbrev pub GoesOn : Scan → Scanner → Scanner → Type 0
-GoesOn (Whole r) s t = t.bytes ≡ s.bytes
-GoesOn End s t = t ≡ s
-GoesOn Torn s t = t ≡ s
+abbrev pub ComesTo : Scan → Scanner → Scanner → Type 0
+ComesTo (Whole r) s t = t.bytes ≡ s.bytes
+ComesTo End s t = t ≡ s
+ComesTo Torn s t = t ≡ s

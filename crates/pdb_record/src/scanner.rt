@@ -26,7 +26,7 @@ impl<'a> Scanner<'a> {
     ghost use Rattle.std.specs.Prelude.{◌+◌};
     ghost use Rattle.pdb_model.specs.Records.{IsEndOfLog, Record};
     ghost use Rattle.pdb_record.specs.declared.scanner.Scan.TheVariants.{End};
-    ghost use Rattle.pdb_record.specs.Scans.{BodyIsAt, GoesOn, HasHere, IfWhole, IsPast, IsScan, Shows, WholeAnd, place, scanned};
+    ghost use Rattle.pdb_record.specs.Scans.{BodyIsAt, ComesTo, HasHere, IfWhole, IsPast, IsScan, Shows, WholeAnd, place, scanned};
 
     /// A scanner of these bytes from a place on, at most their end.
     pub fn new(bytes: &'a [u8], at: usize) -> Scanner<'a>
@@ -42,7 +42,7 @@ impl<'a> Scanner<'a> {
         ensures answer { IsScan result self.old }
         ensures found { (x : Record) → HasHere self.old x → WholeAnd result (λ r. Shows r x) × IsPast x self.old self.new }
         ensures ended { IsEndOfLog (scanned self.old) (place self.old) → result ≡ End }
-        ensures goes_on { GoesOn result self.old self.new }
+        ensures goes_on { ComesTo result self.old self.new }
         ensures borrowed { IfWhole result (λ r. BodyIsAt r self.old (place self.old + 48)) }
     {
         let left = &self.bytes[self.at..];
