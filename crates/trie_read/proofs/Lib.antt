@@ -1,0 +1,4 @@
+pub mod Rising
+pub mod Among
+pub mod Hanging
+pub mod Stored
