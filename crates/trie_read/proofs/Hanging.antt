@@ -81,7 +81,7 @@ goes_on (x ∷ p) (y ∷ q) ss h none some =
 abbrev pub Above : List Suffix → ℕ → List ℕ
 Above ss i = common_prefix ss ++ i ∷ []
 
-fits_below : (d : ℕ) (ss : List Suffix) (i : ℕ) → levels_of ss ≤ suc d → (below (Above ss i) ss ≡ [] → ⊥) → levels_of (below (Above ss i) ss) ≤ d
+pub fits_below : (d : ℕ) (ss : List Suffix) (i : ℕ) → levels_of ss ≤ suc d → (below (Above ss i) ss ≡ [] → ⊥) → levels_of (below (Above ss i) ss) ≤ d
 fits_below d ss i fits some =
     let two : below (Above ss i) ss ≡ below (i ∷ []) (below (common_prefix ss) ss) = below-append (common_prefix ss) (i ∷ []) ss in
     elim (fewer_levels d (common_prefix ss) i ss fits) [
@@ -89,7 +89,7 @@ fits_below d ss i fits some =
       | inr less ↦ subst (λ (ts : List Suffix). levels_of ts ≤ d) (sym two) less
     ]
 
-hangs_further : (ss : List Suffix) (i : ℕ) (r : List ℕ) → (below (Above ss i) ss ≡ [] → ⊥) → Hangs (below (Above ss i) ss) r → Hangs ss (Above ss i ++ r)
+pub hangs_further : (ss : List Suffix) (i : ℕ) (r : List ℕ) → (below (Above ss i) ss ≡ [] → ⊥) → Hangs (below (Above ss i) ss) r → Hangs ss (Above ss i ++ r)
 hangs_further ss i r some (inl e) =
     let same : Above ss i ++ r ≡ Above ss i = ap (λ (q : List ℕ). Above ss i ++ q) e ∙ append-nil (Above ss i) in
     inr (common_prefix ss, i, same, nothing_shared ss, λ none. some (sym (ap (λ (q : List ℕ). below q ss) same) ∙ none))
@@ -140,18 +140,18 @@ pub alike : (a b x y : List ℕ) → a ≡ b → x ≡ y → (let m : PathNode =
 alike a b x y e k = cc
 
 -- the child through which a path goes that isn't empty
-record Way (ss : List Suffix) (r : List ℕ) : Type 0 where
-  nibble : ℕ
-  rest : List ℕ
-  is : r ≡ Above ss nibble ++ rest
-  hangs : Hangs (below (Above ss nibble) ss) rest
+pub record Way (ss : List Suffix) (r : List ℕ) : Type 0 where
+  pub nibble : ℕ
+  pub rest : List ℕ
+  pub is : r ≡ Above ss nibble ++ rest
+  pub hangs : Hangs (below (Above ss nibble) ss) rest
 
 regrouped : (c : List ℕ) (j : ℕ) (k : List ℕ) (i : ℕ) → (c ++ (j ∷ k)) ++ i ∷ [] ≡ (c ++ j ∷ []) ++ (k ++ i ∷ [])
 regrouped c j k i = simp append_assoc
 between : (c : List ℕ) (j : ℕ) (k : List ℕ) → c ++ (j ∷ k) ≡ (c ++ j ∷ []) ++ k
 between c j k = simp append_assoc
 
-way : (ss : List Suffix) (q : List ℕ) (i : ℕ) (r : List ℕ) → r ≡ q ++ i ∷ [] → common_prefix (below q ss) ≡ [] → (below r ss ≡ [] → ⊥) → Way ss r
+pub way : (ss : List Suffix) (q : List ℕ) (i : ℕ) (r : List ℕ) → r ≡ q ++ i ∷ [] → common_prefix (below q ss) ≡ [] → (below r ss ≡ [] → ⊥) → Way ss r
 way ss q i r e none some =
     let through : below r ss ≡ below (i ∷ []) (below q ss) = ap (λ (k : List ℕ). below k ss) e ∙ below-append q (i ∷ []) ss in
     let on : (k : List ℕ) × (q ≡ common_prefix ss ++ k) =
@@ -176,7 +176,7 @@ way ss q i r e none some =
               λ z. some (ap (λ (t : List ℕ). below t ss) is ∙ below-append (Above ss j) (k ++ i ∷ []) ss ∙ z));
         }
 
-is_nibble : (j : ℕ) (ss : List Suffix) → AllByRecursion InNibbles ss → (below (j ∷ []) ss ≡ [] → ⊥) → j < 16
+pub is_nibble : (j : ℕ) (ss : List Suffix) → AllByRecursion InNibbles ss → (below (j ∷ []) ss ≡ [] → ⊥) → j < 16
 is_nibble j [] a some = absurd (some refl)
 is_nibble j (([], v) ∷ ss) a some = is_nibble j ss a.1 some
 is_nibble j ((n ∷ ns, v) ∷ ss) a some =

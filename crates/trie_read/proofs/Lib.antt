@@ -2,3 +2,5 @@ pub mod Rising
 pub mod Among
 pub mod Hanging
 pub mod Stored
+pub mod Children
+pub mod Balance

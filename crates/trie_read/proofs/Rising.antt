@@ -135,7 +135,7 @@ all_kept P test (x ∷ xs) a =
       | false ↦ all_kept P test xs a.1
     ]
 
-rises_kept : (test : PathNode → Bool) (ns : List PathNode) → Rises ns → Rises (filter test ns)
+pub rises_kept : (test : PathNode → Bool) (ns : List PathNode) → Rises ns → Rises (filter test ns)
 rises_kept test [] a = tt
 rises_kept test (n ∷ ns) a =
     elim (test n) as (λ b. Rises (cond b (n ∷ filter test ns) (filter test ns))) [

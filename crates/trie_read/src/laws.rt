@@ -1,7 +1,9 @@
-ghost use Rattle.std.specs.Prelude.{ℕ, List, ◌↔◌, Contains};
-ghost use Rattle.trie_model.specs.Nodes.{PathNode, all_over, stored_over};
-ghost use Rattle.trie_model.specs.Trie.{Suffix};
-ghost use Rattle.trie_read.specs.Paths.{AreNibbles, IsHung, IsLong, RiseByPath};
+ghost use Rattle.std.specs.Prelude.{◌≡◌, ◌⊎◌, ℕ, ◌+◌, ◌<◌, ◌≤◌, Bool, true, List, [], ◌∷◌, ◌++◌, length, ◌↔◌, Contains, count_by, is_some};
+ghost use Rattle.trie_model.specs.Node.{spelling};
+ghost use Rattle.trie_model.specs.Nodes.{PathNode, all_over, dropped_nodes, put_nodes, stored_nodes, stored_over};
+ghost use Rattle.trie_model.specs.State.{State};
+ghost use Rattle.trie_model.specs.Trie.{Suffix, below, child_value, node_of_all, value_here};
+ghost use Rattle.trie_read.specs.Paths.{AreNibbles, Hangs, IsHung, IsLong, IsNamed, RiseByPath, child_at, child_path, node_at};
 
 /// The nodes of a trie rise strictly by path, so that no path is there twice; those that are stored too.
 pub fn nodes_rise_by_path()
@@ -17,4 +19,34 @@ pub fn nodes_hang_where_keys_part()
         → Contains (all_over suffixes) n ↔ IsHung suffixes n }
     ensures stored { (suffixes : List Suffix) (n : PathNode) → AreNibbles suffixes
         → Contains (stored_over suffixes) n ↔ (IsHung suffixes n × IsLong n) }
+{}
+
+/// A node's value is that of the key that ends after its partial key. Its child at a nibble is there exactly where keys go
+/// on with the partial key and the nibble, and is the Merkle value of the node over those; that node hangs there, and is
+/// stored where its spelling has 32 bytes or more.
+pub fn children_are_the_nodes_below()
+    ensures value { (suffixes : List Suffix) → (node_of_all suffixes).value
+        ≡ value_here (below (node_of_all suffixes).partial suffixes) }
+    ensures child { (suffixes : List Suffix) (path : List ℕ) (nibble : ℕ) → nibble < 16
+        → child_at suffixes path nibble ≡ child_value node_of_all (below (child_path suffixes path nibble) suffixes) }
+    ensures hangs { (suffixes : List Suffix) (path : List ℕ) (nibble : ℕ) → nibble < 16
+        → is_some (child_at suffixes path nibble) ≡ true → Hangs suffixes (child_path suffixes path nibble) }
+    ensures stored { (suffixes : List Suffix) (path : List ℕ) (nibble : ℕ) (n : PathNode) → AreNibbles suffixes → nibble < 16
+        → is_some (child_at suffixes path nibble) ≡ true → n.path ≡ child_path suffixes path nibble
+        → n.bytes ≡ spelling (node_at suffixes n.path) → 32 ≤ length n.bytes → Contains (stored_over suffixes) n }
+{}
+
+/// Each node of a trie but the root is named by the node above it: this has its Merkle value as the child at its path.
+pub fn nodes_are_named_from_above()
+    ensures { (suffixes : List Suffix) (n : PathNode) → AreNibbles suffixes → Contains (all_over suffixes) n
+        → (n.path ≡ []) ⊎ IsNamed suffixes n }
+{}
+
+/// What a change stores and drops is what its two states' stored nodes differ in, as often as each is there: of the nodes
+/// that pass any test, as that of having a given hash, the second state has so many as the first, less those dropped, with
+/// those put.
+pub fn puts_and_drops_balance()
+    ensures { (m m2 : State) (test : PathNode → Bool)
+        → count_by test (stored_nodes m2) + count_by test (dropped_nodes m m2)
+        ≡ count_by test (stored_nodes m) + count_by test (put_nodes m m2) }
 {}
