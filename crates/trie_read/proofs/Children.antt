@@ -46,12 +46,15 @@ pub some_below : (ss : List Suffix) (path : List ℕ) (i : ℕ) → i < 16 → i
 some_below ss path i h some =
     some_child node_of_all (below (child_path ss path i) ss) (subst (λ (c : Option (List ℕ)). is_some c ≡ true) (child_of ss path i h) some)
 
-pub child_hangs : (ss : List Suffix) (path : List ℕ) (i : ℕ) → i < 16 → is_some (child_at ss path i) ≡ true → Hangs ss (child_path ss path i)
-child_hangs ss path i h some =
+pub hangs_below : (ss : List Suffix) (path : List ℕ) (i : ℕ) → (below (child_path ss path i) ss ≡ [] → ⊥) → Hangs ss (child_path ss path i)
+hangs_below ss path i some =
     let p : List ℕ = (node_at ss path).partial in
     let none : common_prefix (below (path ++ p) ss) ≡ [] =
     ap common_prefix (below-append path p ss ∙ ap (λ (q : List ℕ). below q (below path ss)) (partial_of (below path ss))) ∙ nothing_shared (below path ss) in
-    inr (path ++ p, i, sym (append_assoc path p (i ∷ [])), none, some_below ss path i h some)
+    inr (path ++ p, i, sym (append_assoc path p (i ∷ [])), none, some)
+
+pub child_hangs : (ss : List Suffix) (path : List ℕ) (i : ℕ) → i < 16 → is_some (child_at ss path i) ≡ true → Hangs ss (child_path ss path i)
+child_hangs ss path i h some = hangs_below ss path i (some_below ss path i h some)
 
 pub child_stored : (ss : List Suffix) (path : List ℕ) (i : ℕ) (n : PathNode) → AreNibbles ss → i < 16 → is_some (child_at ss path i) ≡ true
     → n.path ≡ child_path ss path i → n.bytes ≡ spelling (node_at ss n.path) → 32 ≤ length n.bytes → Contains (stored_over ss) n

@@ -4,3 +4,5 @@ pub mod Hanging
 pub mod Stored
 pub mod Children
 pub mod Balance
+pub mod Sound
+pub mod Binding

@@ -1,8 +1,11 @@
-ghost use Rattle.std.specs.Prelude.{◌≡◌, ◌⊎◌, ℕ, ◌+◌, ◌<◌, ◌≤◌, Bool, true, List, [], ◌∷◌, ◌++◌, length, ◌↔◌, Contains, count_by, is_some};
+ghost use Rattle.std.specs.Prelude.{◌≡◌, ◌⊎◌, ℕ, ◌+◌, ◌<◌, ◌≤◌, Bool, true, List, [], ◌∷◌, ◌++◌, length, ◌↔◌, All, Contains, count_by, is_some};
+ghost use Rattle.std.specs.FinMap.{entries};
 ghost use Rattle.trie_model.specs.Node.{spelling};
 ghost use Rattle.trie_model.specs.Nodes.{PathNode, all_over, dropped_nodes, put_nodes, stored_nodes, stored_over};
 ghost use Rattle.trie_model.specs.State.{State};
-ghost use Rattle.trie_model.specs.Trie.{Suffix, below, child_value, node_of_all, value_here};
+ghost use Rattle.trie_model.specs.Trie.{Suffix, below, child_value, node_of_all, trie_root, value_here};
+ghost use Rattle.trie_root.specs.Suffixes.{IsEntry};
+ghost use Rattle.trie_read.specs.Collision.{HaveCollision};
 ghost use Rattle.trie_read.specs.Paths.{AreNibbles, Hangs, IsHung, IsLong, IsNamed, RiseByPath, child_at, child_path, node_at};
 
 /// The nodes of a trie rise strictly by path, so that no path is there twice; those that are stored too.
@@ -49,4 +52,11 @@ pub fn puts_and_drops_balance()
     ensures { (m m2 : State) (test : PathNode → Bool)
         → count_by test (stored_nodes m2) + count_by test (dropped_nodes m m2)
         ≡ count_by test (stored_nodes m) + count_by test (put_nodes m m2) }
+{}
+
+/// A root binds its state: two states of one root are one state, or a stored node of one and a stored node of the other
+/// have different spellings with one hash.
+pub fn a_root_binds()
+    ensures { (m m2 : State) → All IsEntry (entries m) → All IsEntry (entries m2) → trie_root m ≡ trie_root m2
+        → (m ≡ m2) ⊎ HaveCollision (stored_nodes m) (stored_nodes m2) }
 {}

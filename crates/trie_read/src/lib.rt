@@ -4,6 +4,6 @@
 mod laws;
 
 pub use laws::{
-    children_are_the_nodes_below, nodes_are_named_from_above, nodes_hang_where_keys_part,
+    a_root_binds, children_are_the_nodes_below, nodes_are_named_from_above, nodes_hang_where_keys_part,
     nodes_rise_by_path, puts_and_drops_balance,
 };
