@@ -1,19 +1,18 @@
 -- What two lists of nodes that rise by path have in common is one list.
 use Rattle.std.proofs.Common.{◌≡◌, ℕ, zero, suc, ◌+◌, ◌≤◌, Bool, true, false, cond, List, [], ◌∷◌, length, T, refl, ap, subst, sym, ◌∙◌, arith}
 use Rattle.std.specs.Prelude.{◌&&◌, ◌||◌, not, count_by, filter}
-use Rattle.std.specs.List.{AllByRecursion, list_any}
+use Rattle.std.specs.List.{AllByRecursion}
 use Rattle.std.specs.Str.{bytes_eq}
 use Rattle.std.specs.Ordering.{nat_cmp, is_lt, is_eq}
 use Rattle.std.specs.declared.cmp.Ordering.{Ordering}
 use Rattle.std.specs.declared.cmp.Ordering.TheVariants.{Less, Equal, Greater}
-use Rattle.std.specs.Cmp.{IsTotalOrder}
 use Rattle.std.specs.Cmp.Lexicographic.{slice_cmp}
 use Rattle.std.specs.FinMap.{nat_cmp-IsAntisymmetric, slice_cmp-IsAntisymmetric}
 use Rattle.std.proofs.lemmas.Cmp.{nat_list_cmp_total}
 use Rattle.std.proofs.lemmas.List.Filters.{sum_by-filter_both}
 use Rattle.std.proofs.lemmas.Map.Text.{is_eq-slice_cmp}
 use Rattle.std.proofs.lemmas.Slice.Eq.{bytes_eq-Decides}
-use Rattle.trie_model.specs.Nodes.{PathNode, all_over, dropped_nodes, has_node, is_stored, nodes_without, put_nodes, stored_nodes, stored_over}
+use Rattle.trie_model.specs.Nodes.{PathNode, all_over, dropped_nodes, has_node, is_stored, nodes_without, put_nodes, stored_nodes}
 use Rattle.trie_model.specs.State.{State}
 use Rattle.trie_model.specs.Trie.{levels_of, suffixes_of}
 use Rattle.trie_read.proofs.Rising.{LowerThan, Rises, all_weaker, rises_kept, rises_over}
@@ -62,9 +61,11 @@ one_before x xs ys h =
     (λ y lt. let other : bytes_eq x.path y.path ≡ false = lt_differs x.path y.path lt in rw other) ys h)
 
 lower_next : (x y : PathNode) (ys : List PathNode) → T (is_lt (slice_cmp nat_cmp x.path y.path)) → LowerThan y.path ys → LowerThan x.path (y ∷ ys)
-lower_next x y ys h a =
-    (h, all_weaker (λ (z : PathNode). T (is_lt (slice_cmp nat_cmp y.path z.path))) (λ (z : PathNode). T (is_lt (slice_cmp nat_cmp x.path z.path)))
-    (λ z k. lt_trans x.path y.path z.path h k) ys a)
+lower_next x y ys h a = (
+  h,
+  all_weaker (λ (z : PathNode). T (is_lt (slice_cmp nat_cmp y.path z.path))) (λ (z : PathNode). T (is_lt (slice_cmp nat_cmp x.path z.path)))
+      (λ z k. lt_trans x.path y.path z.path h k) ys a,
+)
 
 first_passed : (x : PathNode) (xs ys : List PathNode) → LowerThan x.path ys → filter (has_node ys) xs ≡ filter (has_node xs) ys
     → filter (has_node ys) (x ∷ xs) ≡ filter (has_node (x ∷ xs)) ys

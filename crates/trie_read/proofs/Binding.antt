@@ -1,5 +1,5 @@
 -- A root binds the state, or shows two spellings with one hash.
-use Rattle.std.proofs.Common.{◌≡◌, ◌⊎◌, ℕ, zero, suc, ◌+◌, ◌/◌, ◌%◌, ◌<◌, ◌≤◌, Bool, true, false, ltb, List, [], ◌∷◌, ◌++◌, length, map, get_or, Option, Some, None, refl, ap, ap₂, subst, sym, ◌∙◌, inl, inr, arith}
+use Rattle.std.proofs.Common.{◌≡◌, ◌⊎◌, ℕ, zero, suc, ◌/◌, ◌%◌, ◌<◌, ◌≤◌, true, false, ltb, List, [], ◌∷◌, ◌++◌, length, map, get_or, Some, None, refl, ap, ap₂, subst, sym, ◌∙◌, inl, inr, arith}
 use Rattle.std.specs.Prelude.{All}
 use Rattle.std.specs.Str.{bytes_eq}
 use Rattle.std.specs.FinMap.{entries, same_entries_map}
@@ -12,14 +12,14 @@ use Rattle.sdb_blake2.specs.Blake2b.{H}
 use Rattle.trie_model.specs.Node.{Node, merkle_value, spelling}
 use Rattle.trie_model.specs.Nodes.{PathNode, all_over, is_stored, stored_nodes, stored_over}
 use Rattle.trie_model.specs.State.{State}
-use Rattle.trie_model.specs.Trie.{Suffix, below, child_value, common_prefix, levels_of, node_of_all, root_node, suffixes_of, trie_root, value_here}
+use Rattle.trie_model.specs.Trie.{Suffix, below, child_value, common_prefix, levels_of, node_of_all, root_node, suffixes_of, trie_root}
 use Rattle.trie_root.specs.Suffixes.{IsEntry}
 use Rattle.trie_root.proofs.Levels.{levels_above_none}
 use Rattle.trie_root.proofs.OneLevel.{one_level}
 use Rattle.trie_root.proofs.Prefixes.{below-append}
 use Rattle.trie_root.proofs.ReadOffStates.{in_nibbles, suffixes_sorted}
 use Rattle.trie_root.proofs.ShapesEntries.{suffixes_of_entries}
-use Rattle.trie_read.specs.Paths.{Hangs, child_at, child_path, node_at}
+use Rattle.trie_read.specs.Paths.{Hangs, child_path, node_at}
 use Rattle.trie_read.specs.Collision.{HaveCollision}
 use Rattle.trie_read.proofs.Among.{contains_from, kept_among}
 use Rattle.trie_read.proofs.Children.{child_of, hangs_below, partial_of}
@@ -112,9 +112,9 @@ child_binds ss ts s t q h k deeper e = elim (none_or_some (below q ss)) [
           | inl same ↦ deeper some.0 (h some.0) (k more.0) same
           | inr long ↦ elim (equal_or (spelling (node_at ss q)) (spelling (node_at ts q)) (HaveCollision (stored_over ss) (stored_over ts))
               (λ differ. collision_at ss ts s t q (h some.0) (k more.0) (inr long.0) (inr long.1) differ long.2)) [
-            | inl same ↦ deeper some.0 (h some.0) (k more.0) same
-            | inr c ↦ inr c
-          ]
+                | inl same ↦ deeper some.0 (h some.0) (k more.0) same
+                | inr c ↦ inr c
+              ]
         ]
   ]
 ]
@@ -160,8 +160,10 @@ nibbles_bind (x ∷ a) (y ∷ b) e = next x y a b (parts e) (nibbles_bind a b (r
   where
     parts : nibbles_of (x ∷ a) ≡ nibbles_of (y ∷ b) → x ≡ y
     parts k = let high : x / 16 ≡ y / 16 = cc in let low : x % 16 ≡ y % 16 = cc in omega arith
+
     rest : nibbles_of (x ∷ a) ≡ nibbles_of (y ∷ b) → nibbles_of a ≡ nibbles_of b
     rest k = cc
+
     next : (x y : ℕ) (a b : List ℕ) → x ≡ y → a ≡ b → x ∷ a ≡ y ∷ b
     next x y a b h k = cc
 
@@ -173,14 +175,19 @@ entries_bind ((k, v) ∷ es) ((l, w) ∷ fs) h = next k l v w es fs (nibbles_bin
   where
     in_all : List (List ℕ × List ℕ) → List Suffix
     in_all es = map in_nibbles es
+
     head : (nibbles_of k, v) ∷ in_all es ≡ (nibbles_of l, w) ∷ in_all fs → ◌≡◌ {A = Suffix} (nibbles_of k, v) (nibbles_of l, w)
     head z = cc
+
     keys : (nibbles_of k, v) ∷ in_all es ≡ (nibbles_of l, w) ∷ in_all fs → nibbles_of k ≡ nibbles_of l
     keys z = ap (λ (s : Suffix). s.0) (head z)
+
     values : (nibbles_of k, v) ∷ in_all es ≡ (nibbles_of l, w) ∷ in_all fs → v ≡ w
     values z = ap (λ (s : Suffix). s.1) (head z)
+
     rest : (nibbles_of k, v) ∷ in_all es ≡ (nibbles_of l, w) ∷ in_all fs → in_all es ≡ in_all fs
     rest z = cc
+
     next : (k l v w : List ℕ) (es fs : List (List ℕ × List ℕ)) → k ≡ l → v ≡ w → es ≡ fs → (k, v) ∷ es ≡ (l, w) ∷ fs
     next k l v w es fs a b c = ap₂ (λ (e : List ℕ × List ℕ) (gs : List (List ℕ × List ℕ)). e ∷ gs) (ap₂ (λ (x y : List ℕ). (x, y)) a b) c
 

@@ -1,12 +1,12 @@
 -- A node's children are the nodes below it, and each node but the root is a child.
-use Rattle.std.proofs.Common.{◌≡◌, ◌⊎◌, ℕ, zero, suc, ◌+◌, ◌<◌, ◌≤◌, true, false, List, [], ◌∷◌, ◌++◌, length, map, get_or, Option, Some, None, refl, ap, subst, sym, ◌∙◌, inl, inr, arith, append_assoc}
+use Rattle.std.proofs.Common.{◌≡◌, ◌⊎◌, ℕ, zero, suc, ◌<◌, ◌≤◌, true, false, List, [], ◌∷◌, ◌++◌, length, get_or, Option, Some, None, refl, ap, subst, sym, ◌∙◌, inl, inr, arith, append_assoc}
 use Rattle.std.specs.Prelude.{Contains, is_some}
 use Rattle.std.specs.List.{AllByRecursion}
 use Rattle.std.proofs.lemmas.List.{append-nil}
 use Rattle.std.proofs.lemmas.List.FromFn.{get_or-map-range_with_len}
 use Rattle.trie_model.specs.Node.{Node, merkle_value, spelling}
 use Rattle.trie_model.specs.Nodes.{PathNode, all_over, is_stored, stored_over}
-use Rattle.trie_model.specs.Trie.{Suffix, below, child_value, common_prefix, every_nibble, levels_of, node_of_all, value_here}
+use Rattle.trie_model.specs.Trie.{Suffix, below, child_value, common_prefix, levels_of, node_of_all, value_here}
 use Rattle.trie_root.specs.inner.Groups.{child_below, children_over}
 use Rattle.trie_root.proofs.Levels.{levels_above_none}
 use Rattle.trie_root.proofs.OneLevel.{one_level}
@@ -15,7 +15,7 @@ use Rattle.trie_root.proofs.ReadOffNibbles.{InNibbles, shorter_in_nibbles}
 use Rattle.trie_root.proofs.ReadOffOrder.{all_below}
 use Rattle.trie_root.proofs.ShapesShared.{nothing_shared}
 use Rattle.trie_read.specs.Paths.{AreNibbles, Hangs, IsHung, IsNamed, child_at, child_path, node_at}
-use Rattle.trie_read.proofs.Among.{Among, among_from, contains_from, kept_among}
+use Rattle.trie_read.proofs.Among.{among_from, contains_from, kept_among}
 use Rattle.trie_read.proofs.Hanging.{Above, Way, below-nil, fits_below, hangs_further, is_nibble, way}
 use Rattle.trie_read.proofs.Stored.{among_hung, in_nibbles, is_hung, is_kept}
 

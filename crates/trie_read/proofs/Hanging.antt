@@ -1,9 +1,9 @@
 -- Nodes hang where suffixes part.
-use Rattle.std.proofs.Common.{◌≡◌, ◌⊎◌, ℕ, zero, suc, ◌+◌, ◌<◌, ◌≤◌, true, false, eqb, List, [], ◌∷◌, ◌++◌, length, map, drop, Some, refl, ap, subst, sym, ◌∙◌, inl, inr, arith, append_assoc, eq-eqb}
+use Rattle.std.proofs.Common.{◌≡◌, ℕ, zero, suc, ◌<◌, ◌≤◌, true, false, eqb, List, [], ◌∷◌, ◌++◌, map, drop, refl, ap, subst, sym, ◌∙◌, inl, inr, arith, append_assoc, eq-eqb}
 use Rattle.std.specs.List.{AllByRecursion, flat_map}
 use Rattle.std.proofs.lemmas.Bool.Decides.{eqb_tells}
 use Rattle.std.proofs.lemmas.List.{append-nil}
-use Rattle.trie_model.specs.Node.{Node, spelling}
+use Rattle.trie_model.specs.Node.{spelling}
 use Rattle.trie_model.specs.Nodes.{PathNode, if_any, nodes_over}
 use Rattle.trie_model.specs.Trie.{Suffix, below, common, common_prefix, levels_of, node_of_all, node_over}
 use Rattle.trie_root.proofs.Fronts.{all_with, none_with_other}
@@ -94,8 +94,13 @@ hangs_further ss i r some (inl e) =
     let same : Above ss i ++ r ≡ Above ss i = ap (λ (q : List ℕ). Above ss i ++ q) e ∙ append-nil (Above ss i) in
     inr (common_prefix ss, i, same, nothing_shared ss, λ none. some (sym (ap (λ (q : List ℕ). below q ss) same) ∙ none))
 hangs_further ss i r some (inr h) =
-    inr (Above ss i ++ h.0, h.1, ap (λ (q : List ℕ). Above ss i ++ q) h.2 ∙ sym (append_assoc (Above ss i) h.0 (h.1 ∷ [])),
-    ap common_prefix (below-append (Above ss i) h.0 ss) ∙ h.3, λ none. h.4 (sym (below-append (Above ss i) r ss) ∙ none))
+    inr (
+      Above ss i ++ h.0,
+      h.1,
+      ap (λ (q : List ℕ). Above ss i ++ q) h.2 ∙ sym (append_assoc (Above ss i) h.0 (h.1 ∷ [])),
+      ap common_prefix (below-append (Above ss i) h.0 ss) ∙ h.3,
+      λ none. h.4 (sym (below-append (Above ss i) r ss) ∙ none),
+    )
 
 -- a node whose path goes on from another's by some nibbles, of the suffixes there
 pub record Hung (p : List ℕ) (ss : List Suffix) (n : PathNode) : Type 0 where
@@ -148,6 +153,7 @@ pub record Way (ss : List Suffix) (r : List ℕ) : Type 0 where
 
 regrouped : (c : List ℕ) (j : ℕ) (k : List ℕ) (i : ℕ) → (c ++ (j ∷ k)) ++ i ∷ [] ≡ (c ++ j ∷ []) ++ (k ++ i ∷ [])
 regrouped c j k i = simp append_assoc
+
 between : (c : List ℕ) (j : ℕ) (k : List ℕ) → c ++ (j ∷ k) ≡ (c ++ j ∷ []) ++ k
 between c j k = simp append_assoc
 
@@ -172,8 +178,13 @@ way ss q i r e none some =
           nibble = j;
           rest = k ++ i ∷ [];
           is = is;
-          hangs = inr (k, i, refl, sym (ap common_prefix (ap (λ (t : List ℕ). below t ss) same ∙ below-append (Above ss j) k ss)) ∙ none,
-              λ z. some (ap (λ (t : List ℕ). below t ss) is ∙ below-append (Above ss j) (k ++ i ∷ []) ss ∙ z));
+          hangs = inr (
+            k,
+            i,
+            refl,
+            sym (ap common_prefix (ap (λ (t : List ℕ). below t ss) same ∙ below-append (Above ss j) k ss)) ∙ none,
+            λ z. some (ap (λ (t : List ℕ). below t ss) is ∙ below-append (Above ss j) (k ++ i ∷ []) ss ∙ z),
+          );
         }
 
 pub is_nibble : (j : ℕ) (ss : List Suffix) → AllByRecursion InNibbles ss → (below (j ∷ []) ss ≡ [] → ⊥) → j < 16

@@ -1,5 +1,5 @@
 -- The nodes of a trie rise by path.
-use Rattle.std.proofs.Common.{◌≡◌, ℕ, zero, suc, ◌+◌, ◌<◌, ◌≤◌, Bool, true, false, cond, List, [], ◌∷◌, ◌++◌, map, T, refl, subst, sym, arith, append_assoc}
+use Rattle.std.proofs.Common.{◌≡◌, ℕ, zero, suc, ◌<◌, ◌≤◌, Bool, true, false, cond, List, [], ◌∷◌, ◌++◌, map, T, refl, subst, sym, arith, append_assoc}
 use Rattle.std.specs.List.{AllByRecursion, filter, flat_map}
 use Rattle.std.specs.Ordering.{nat_cmp, is_lt, ordering_then}
 use Rattle.std.specs.declared.cmp.Ordering.TheVariants.{Less, Equal, Greater}
@@ -81,11 +81,12 @@ rises_flat : (f : ℕ → List PathNode) (q : List ℕ) → ((i : ℕ) → Rises
 rises_flat f q a b i zero = (tt, tt)
 rises_flat f q a b i (suc k) =
     let others : List PathNode = flat_map f (from (suc i) k) in
-    let rest : Rises others × AllByRecursion (From q (suc i)) others = rises_flat f q a b (suc i) k in
-    (rises_joined (f i) others (a i) rest.0
-    (all_weaker (With q i) (λ (x : PathNode). LowerThan x.path others)
-    (λ x w. all_weaker (From q (suc i)) (λ (m : PathNode). T (is_lt (slice_cmp nat_cmp x.path m.path))) (λ m g. with_lower q i x m w g) others rest.1) (f i) (b i)),
-    all_joined (From q i) (f i) others (all_weaker (With q i) (From q i) (with_from q i) (f i) (b i)) (all_weaker (From q (suc i)) (From q i) (from_less q i) others rest.1))
+    let rest : Rises others × AllByRecursion (From q (suc i)) others = rises_flat f q a b (suc i) k in (
+      rises_joined (f i) others (a i) rest.0
+          (all_weaker (With q i) (λ (x : PathNode). LowerThan x.path others)
+          (λ x w. all_weaker (From q (suc i)) (λ (m : PathNode). T (is_lt (slice_cmp nat_cmp x.path m.path))) (λ m g. with_lower q i x m w g) others rest.1) (f i) (b i)),
+      all_joined (From q i) (f i) others (all_weaker (With q i) (From q i) (with_from q i) (f i) (b i)) (all_weaker (From q (suc i)) (From q i) (from_less q i) others rest.1),
+    )
 
 -- what holds of no nodes and of those over some suffixes
 keeps_if_any : (P : List PathNode → Type 0) (f : List Suffix → List PathNode) (ss : List Suffix) → P [] → P (f ss) → P (if_any f ss)
@@ -121,9 +122,10 @@ rises_over (suc d) path ss =
     (λ i. keeps_if_any Rises (nodes_over d (path ++ (p ++ i ∷ []))) (below (p ++ i ∷ []) ss) tt (rises_over d (path ++ (p ++ i ∷ [])) (below (p ++ i ∷ []) ss)).0)
     (λ i. keeps_if_any (AllByRecursion (With (path ++ p) i)) (nodes_over d (path ++ (p ++ i ∷ []))) (below (p ++ i ∷ []) ss) tt
     (all_weaker (StartsWith (path ++ (p ++ i ∷ []))) (With (path ++ p) i) (starts_with path p i) (nodes_over d (path ++ (p ++ i ∷ [])) (below (p ++ i ∷ []) ss))
-    (rises_over d (path ++ (p ++ i ∷ [])) (below (p ++ i ∷ []) ss)).1)) 0 16 in
-    ((all_weaker (From (path ++ p) 0) (λ (n : PathNode). T (is_lt (slice_cmp nat_cmp path n.path))) (from_above path p) (flat_map f (from 0 16)) both.1, both.0),
-    (([], sym (append-nil path)), all_weaker (From (path ++ p) 0) (StartsWith path) (from_starts path p) (flat_map f (from 0 16)) both.1))
+    (rises_over d (path ++ (p ++ i ∷ [])) (below (p ++ i ∷ []) ss)).1)) 0 16 in (
+      (all_weaker (From (path ++ p) 0) (λ (n : PathNode). T (is_lt (slice_cmp nat_cmp path n.path))) (from_above path p) (flat_map f (from 0 16)) both.1, both.0),
+      (([], sym (append-nil path)), all_weaker (From (path ++ p) 0) (StartsWith path) (from_starts path p) (flat_map f (from 0 16)) both.1),
+    )
 
 -- ---- and so do those that a test keeps
 

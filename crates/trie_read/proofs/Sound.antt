@@ -1,5 +1,5 @@
 -- Sorted suffixes within their limits: their nodes are nodes, and their parts make them.
-use Rattle.std.proofs.Common.{◌≡◌, ℕ, zero, suc, ◌+◌, ◌*◌, ◌<◌, ◌≤◌, List, [], ◌∷◌, ◌++◌, length, take, T, refl, ap, subst, sym, ◌∙◌, arith, w64, length-append, length-take-le}
+use Rattle.std.proofs.Common.{◌≡◌, ℕ, zero, suc, ◌+◌, ◌*◌, ◌<◌, ◌≤◌, List, [], ◌∷◌, ◌++◌, length, T, refl, ap, subst, sym, ◌∙◌, arith, w64, length-append, length-take-le}
 use Rattle.std.specs.Int.{to_le_bytes}
 use Rattle.std.specs.Prelude.{All, slice_index}
 use Rattle.std.specs.List.{AllByRecursion, flat_map}
@@ -8,7 +8,7 @@ use Rattle.std.specs.Cmp.Lexicographic.{slice_cmp}
 use Rattle.std.specs.FinMap.{is_sorted}
 use Rattle.std.proofs.lemmas.List.Elements.{All-from_recursion, All-tail, recursion_from_All}
 use Rattle.sdb_blake2.specs.Blake2b.{H, digest, final_state, state_bytes}
-use Rattle.trie_model.specs.Node.{IsNode, Node, spelling}
+use Rattle.trie_model.specs.Node.{IsNode, spelling}
 use Rattle.trie_model.specs.Trie.{Suffix, below, common_prefix, levels_of, node_of_all, node_over, own_value, value_here, with_prefix}
 use Rattle.trie_codec.proofs.Spellings.{one_spelling}
 use Rattle.trie_root.specs.Suffixes.{IsSuffix}
@@ -18,7 +18,6 @@ use Rattle.trie_root.proofs.ReadOff.{with_prefix-below}
 use Rattle.trie_root.proofs.ReadOffNibbles.{InNibbles, from, going_on, parts_in_order}
 use Rattle.trie_root.proofs.ReadOffOrder.{StaysShorter, all_below, is_sorted-nibble}
 use Rattle.trie_root.proofs.ShapesNodes.{node_within}
-use Rattle.trie_root.proofs.Stripped.{is_sorted-below}
 use Rattle.trie_read.specs.Paths.{AreNibbles}
 use Rattle.trie_read.proofs.Hanging.{below-nil}
 use Rattle.trie_read.proofs.Rising.{all_weaker}
