@@ -152,7 +152,7 @@ bind (suc d) ss ts s t p fits e =
 
 -- ---- of states
 
-nibbles_bind : (a b : List ℕ) → nibbles_of a ≡ nibbles_of b → a ≡ b
+pub nibbles_bind : (a b : List ℕ) → nibbles_of a ≡ nibbles_of b → a ≡ b
 nibbles_bind [] [] e = refl
 nibbles_bind [] (y ∷ b) e = absurd cc
 nibbles_bind (x ∷ a) [] e = absurd cc

@@ -6,3 +6,4 @@ pub mod Children
 pub mod Balance
 pub mod Sound
 pub mod Binding
+pub mod Ways

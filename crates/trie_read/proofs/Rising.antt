@@ -94,7 +94,7 @@ keeps_if_any P f [] none some = none
 keeps_if_any P f (s ∷ ss) none some = some
 
 -- the nodes over some suffixes rise, and their paths go on from where the first hangs
-abbrev StartsWith : List ℕ → PathNode → Type 0
+abbrev pub StartsWith : List ℕ → PathNode → Type 0
 StartsWith path n = (r : List ℕ) × (n.path ≡ path ++ r)
 
 regrouped : (a b : List ℕ) (i : ℕ) (r : List ℕ) → (a ++ (b ++ (i ∷ []))) ++ r ≡ (a ++ b) ++ (i ∷ r)

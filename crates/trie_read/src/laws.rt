@@ -1,9 +1,11 @@
-ghost use Rattle.std.specs.Prelude.{◌≡◌, ◌⊎◌, ℕ, ◌+◌, ◌<◌, ◌≤◌, Bool, true, List, [], ◌∷◌, ◌++◌, length, ◌↔◌, All, Contains, count_by, is_some};
-ghost use Rattle.std.specs.FinMap.{entries};
+ghost use Rattle.std.specs.Prelude.{◌≡◌, ◌⊎◌, ℕ, ◌+◌, ◌<◌, ◌≤◌, Bool, true, List, [], ◌∷◌, ◌++◌, length, ◌↔◌, All, Contains, None, Some, count_by, filter, is_some, suc};
+ghost use Rattle.std.specs.FinMap.{entries, get};
+ghost use Rattle.sdb_base.specs.Nibbles.{nibbles_of};
+ghost use Rattle.trie_model.specs.Fetches.{on_the_way};
 ghost use Rattle.trie_model.specs.Node.{spelling};
-ghost use Rattle.trie_model.specs.Nodes.{PathNode, all_over, dropped_nodes, put_nodes, stored_nodes, stored_over};
+ghost use Rattle.trie_model.specs.Nodes.{PathNode, all_over, dropped_nodes, if_any, nodes_over, put_nodes, stored_nodes, stored_over};
 ghost use Rattle.trie_model.specs.State.{State};
-ghost use Rattle.trie_model.specs.Trie.{Suffix, below, child_value, node_of_all, trie_root, value_here};
+ghost use Rattle.trie_model.specs.Trie.{Suffix, after_prefix, below, child_value, common_prefix, node_of_all, node_over, suffixes_of, trie_root, value_here};
 ghost use Rattle.trie_root.specs.Suffixes.{IsEntry};
 ghost use Rattle.trie_read.specs.Collision.{HaveCollision};
 ghost use Rattle.trie_read.specs.Paths.{AreNibbles, Hangs, IsHung, IsLong, IsNamed, RiseByPath, child_at, child_path, node_at};
@@ -59,4 +61,29 @@ pub fn puts_and_drops_balance()
 pub fn a_root_binds()
     ensures { (m m2 : State) → All IsEntry (entries m) → All IsEntry (entries m2) → trie_root m ≡ trie_root m2
         → (m ≡ m2) ⊎ HaveCollision (stored_nodes m) (stored_nodes m2) }
+{}
+
+/// The nodes on a key's way, of those over some suffixes: the node over all of them, and no other where the key ends there or
+/// leaves the partial key; else those on its way over the suffixes that go on as it does, if there are any.
+pub fn a_key_goes_down_one_child()
+    ensures ends { (depth : ℕ) (path rest : List ℕ) (suffixes : List Suffix)
+        → (after_prefix (common_prefix suffixes) rest ≡ None) ⊎ (after_prefix (common_prefix suffixes) rest ≡ Some [])
+        → filter (on_the_way (path ++ rest)) (nodes_over (suc depth) path suffixes)
+        ≡ record { path = path; bytes = spelling (node_over (suc depth) suffixes) } ∷ [] }
+    ensures goes_on { (depth : ℕ) (path rest : List ℕ) (suffixes : List Suffix) (nibble : ℕ) (left : List ℕ) → nibble < 16
+        → after_prefix (common_prefix suffixes) rest ≡ Some (nibble ∷ left)
+        → filter (on_the_way (path ++ rest)) (nodes_over (suc depth) path suffixes)
+        ≡ record { path = path; bytes = spelling (node_over (suc depth) suffixes) }
+        ∷ if_any (λ others. filter (on_the_way (path ++ rest)) (nodes_over depth (path ++ (common_prefix suffixes ++ nibble ∷ [])) others))
+        (below (common_prefix suffixes ++ nibble ∷ []) suffixes) }
+{}
+
+/// The value of a key: of a state it is that of the suffix of no nibbles after the key's. There is none where the key
+/// leaves what all suffixes share, and else it is found after that.
+pub fn a_value_is_at_the_end_of_its_key()
+    ensures state { (m : State) (key : List ℕ) → get m key ≡ value_here (below (nibbles_of key) (suffixes_of m)) }
+    ensures off { (rest : List ℕ) (suffixes : List Suffix) → after_prefix (common_prefix suffixes) rest ≡ None
+        → value_here (below rest suffixes) ≡ None }
+    ensures on { (rest left : List ℕ) (suffixes : List Suffix) → after_prefix (common_prefix suffixes) rest ≡ Some left
+        → value_here (below rest suffixes) ≡ value_here (below left (below (common_prefix suffixes) suffixes)) }
 {}
