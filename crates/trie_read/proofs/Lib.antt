@@ -7,3 +7,4 @@ pub mod Balance
 pub mod Sound
 pub mod Binding
 pub mod Ways
+pub mod Descents

@@ -1,2 +1,4 @@
 pub mod Paths
 pub mod Collision
+pub mod Depth
+pub mod inner

@@ -8,6 +8,7 @@
 //! layers above.
 #![tactic(auto)]
 
+mod descent;
 mod laws;
 
 pub use laws::{
