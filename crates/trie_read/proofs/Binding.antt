@@ -89,7 +89,7 @@ equal_or a b C f = elim (bytes_eq a b) as (λ r. bytes_eq a b ≡ r → (a ≡ b
   | false ↦ λ e. inr (f (λ same. let yes : bytes_eq a b ≡ true = (bytes_eq-Decides a b).1 same in let both : true ≡ false = sym yes ∙ e in cc))
 ] refl
 
-none_or_some : (us : List Suffix) → (us ≡ []) ⊎ ((us ≡ [] → ⊥) × (child_value node_of_all us ≡ Some (merkle_value (spelling (node_of_all us)))))
+pub none_or_some : (us : List Suffix) → (us ≡ []) ⊎ ((us ≡ [] → ⊥) × (child_value node_of_all us ≡ Some (merkle_value (spelling (node_of_all us)))))
 none_or_some [] = inl refl
 none_or_some (u ∷ us) = inr ((λ e. cc), refl)
 
@@ -120,7 +120,7 @@ child_binds ss ts s t q h k deeper e = elim (none_or_some (below q ss)) [
 ]
 
 -- what goes on from a node with a nibble, by the path and by what is left
-from_path : (ss : List Suffix) (p : List ℕ) (i : ℕ) → below (child_path ss p i) ss ≡ below (Above (below p ss) i) (below p ss)
+pub from_path : (ss : List Suffix) (p : List ℕ) (i : ℕ) → below (child_path ss p i) ss ≡ below (Above (below p ss) i) (below p ss)
 from_path ss p i =
     below-append p ((node_at ss p).partial ++ i ∷ []) ss ∙ ap (λ (q : List ℕ). below (q ++ i ∷ []) (below p ss)) (partial_of (below p ss))
 

@@ -8,3 +8,4 @@ pub mod Sound
 pub mod Binding
 pub mod Ways
 pub mod Descents
+pub mod Followed

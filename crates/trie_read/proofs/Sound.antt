@@ -19,6 +19,7 @@ use Rattle.trie_root.proofs.ReadOffNibbles.{InNibbles, from, going_on, parts_in_
 use Rattle.trie_root.proofs.ReadOffOrder.{StaysShorter, all_below, is_sorted-nibble}
 use Rattle.trie_root.proofs.ShapesNodes.{node_within}
 use Rattle.trie_read.specs.Paths.{AreNibbles}
+pub use Rattle.trie_read.specs.inner.Following.{Sound}
 use Rattle.trie_read.proofs.Hanging.{below-nil}
 use Rattle.trie_read.proofs.Rising.{all_weaker}
 
@@ -33,9 +34,6 @@ pub length-hash : (m : List ℕ) → length (H m) ≡ 32
 unfolding H digest
 length-hash m = length-take-le 32 (state_bytes (final_state 32 m) 8) (omega (arith, length-state_bytes (final_state 32 m) 8))
 
-pub record Sound (ss : List Suffix) : Type 0 where
-  pub sorted : T (is_sorted (slice_cmp nat_cmp) ss)
-  pub within : AllByRecursion IsSuffix ss
 
 pub nibbles_in : (ss : List Suffix) → Sound ss → AllByRecursion InNibbles ss
 nibbles_in ss s = all_weaker IsSuffix InNibbles (λ t h. recursion_from_All (λ n. n < 16) t.0 h.nibbles) ss s.within
@@ -55,7 +53,7 @@ sorted_below (x ∷ p) ss s =
 pub sound_below : (p : List ℕ) (ss : List Suffix) → Sound ss → Sound (below p ss)
 sound_below p ss s = record { sorted = sorted_below p ss s.sorted; within = all_below IsSuffix shorter_suffix p ss s.within }
 
-node_sound : (ss : List Suffix) → Sound ss → IsNode (node_of_all ss)
+pub node_sound : (ss : List Suffix) → Sound ss → IsNode (node_of_all ss)
 node_sound ss s = is_node (levels_of ss) (node_over (levels_of ss) ss) (node_within (levels_of ss) ss (omega arith) s.sorted s.within)
 
 -- nodes of one spelling are one node

@@ -39,7 +39,7 @@ follows (x ∷ q) (k ∷ ks) =
       | false ↦ refl
     ]
 
-put_back : (p ns rest : List ℕ) → after_prefix p ns ≡ Some rest → p ++ rest ≡ ns
+pub put_back : (p ns rest : List ℕ) → after_prefix p ns ≡ Some rest → p ++ rest ≡ ns
 put_back [] ns rest e = cc
 put_back (x ∷ p) [] rest e = absurd cc
 put_back (x ∷ p) (n ∷ ns) rest e =
@@ -54,7 +54,7 @@ after_itself : (p ks : List ℕ) → after_prefix p (p ++ ks) ≡ Some ks
 after_itself [] ks = refl
 after_itself (x ∷ p) ks = let same : eqb x x ≡ true = eq-eqb x x refl in rw same (after_itself p ks)
 
-on_its_way : (p ks b : List ℕ) → on_the_way (p ++ ks) (record { path = p; bytes = b }) ≡ true
+pub on_its_way : (p ks b : List ℕ) → on_the_way (p ++ ks) (record { path = p; bytes = b }) ≡ true
 on_its_way p ks b = follows p (p ++ ks) ∙ ap is_some (after_itself p ks)
 
 none_on_the_way : (q ks : List ℕ) (ns : List PathNode) → after_prefix q ks ≡ None → AllByRecursion (StartsWith q) ns → filter (on_the_way ks) ns ≡ []
@@ -200,3 +200,21 @@ found_in key ((k, v) ∷ es) = elim (ends_at key k) [
 
 pub found_at_its_nibbles : (m : State) (key : List ℕ) → get m key ≡ value_here (below (nibbles_of key) (suffixes_of m))
 found_at_its_nibbles m key = get-entries m key ∙ found_in key (entries m)
+
+flat_before : (f : ℕ → List PathNode) (j i k : ℕ) → i + k ≤ j → ((n : ℕ) → (n ≡ j → ⊥) → f n ≡ []) → flat_map f (from i k) ≡ []
+flat_before f j i zero h none = refl
+flat_before f j i (suc k) h none =
+    ap (λ (ns : List PathNode). ns ++ flat_map f (from (suc i) k)) (none i (λ e. omega arith)) ∙ flat_before f j (suc i) k (omega arith) none
+
+-- and of one that goes on with what is no nibble
+pub way_beyond : (d : ℕ) (p ks : List ℕ) (ts : List Suffix) (j : ℕ) (rest : List ℕ) → 16 ≤ j → after_prefix (common_prefix ts) ks ≡ Some (j ∷ rest)
+    → filter (on_the_way (p ++ ks)) (nodes_over (suc d) p ts) ≡ record { path = p; bytes = spelling (node_over (suc d) ts) } ∷ []
+unfolding nodes_over
+way_beyond d p ks ts j rest large e =
+    let head : PathNode = record { path = p; bytes = spelling (node_over (suc d) ts) } in
+    let f : ℕ → List PathNode = below_at d p ts in
+    let other : (i : ℕ) → (i ≡ j → ⊥) → filter (on_the_way (p ++ ks)) (f i) ≡ [] = λ i differ.
+    off_the_way d p ks ts i (ap (option_and_then (after_prefix (i ∷ []))) e ∙ ap (λ b. cond b (Some rest) None) (unlike i j differ)) in
+    ap (λ b. cond b (head ∷ filter (on_the_way (p ++ ks)) (flat_map f (from 0 16))) (filter (on_the_way (p ++ ks)) (flat_map f (from 0 16)))) (on_its_way p ks (spelling (node_over (suc d) ts)))
+    ∙ ap (λ (ns : List PathNode). head ∷ ns) (filter_flat (on_the_way (p ++ ks)) f (from 0 16)
+    ∙ flat_before (λ i. filter (on_the_way (p ++ ks)) (f i)) j 0 16 (omega arith) other)
