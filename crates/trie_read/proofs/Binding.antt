@@ -191,7 +191,7 @@ entries_bind ((k, v) ∷ es) ((l, w) ∷ fs) h = next k l v w es fs (nibbles_bin
     next : (k l v w : List ℕ) (es fs : List (List ℕ × List ℕ)) → k ≡ l → v ≡ w → es ≡ fs → (k, v) ∷ es ≡ (l, w) ∷ fs
     next k l v w es fs a b c = ap₂ (λ (e : List ℕ × List ℕ) (gs : List (List ℕ × List ℕ)). e ∷ gs) (ap₂ (λ (x y : List ℕ). (x, y)) a b) c
 
-sound_state : (m : State) → All IsEntry (entries m) → Sound (suffixes_of m)
+pub sound_state : (m : State) → All IsEntry (entries m) → Sound (suffixes_of m)
 sound_state m a = record { sorted = suffixes_sorted m; within = suffixes_of_entries (entries m) (recursion_from_All IsEntry (entries m) a) }
 
 pub root_binds : (m m2 : State) → All IsEntry (entries m) → All IsEntry (entries m2) → trie_root m ≡ trie_root m2

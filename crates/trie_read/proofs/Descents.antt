@@ -1,6 +1,6 @@
 -- Steps of a key's way down a node.
-use Rattle.std.proofs.Common.{◌≡◌, ◌⊎◌, ℕ, zero, suc, ◌+◌, ◌-◌, ◌<◌, ◌≤◌, Bool, true, false, eqb, cond, List, [], ◌∷◌, ◌++◌, length, get_or, take, drop, Option, Some, None, refl, ap, subst, sym, ◌∙◌, inl, inr, arith, eq-eqb, length-drop}
-use Rattle.std.specs.Prelude.{◌||◌, is_some, nat_lt, Result, Ok, Err}
+use Rattle.std.proofs.Common.{◌≡◌, ℕ, zero, suc, ◌+◌, ◌-◌, ◌<◌, ◌≤◌, Bool, true, false, eqb, List, [], ◌∷◌, length, get_or, drop, Option, Some, None, refl, ap, sym, ◌∙◌, inl, inr, arith, eq-eqb, length-drop}
+use Rattle.std.specs.Prelude.{◌&&◌, ◌||◌, is_some, nat_lt, not, Ok, Err}
 use Rattle.std.specs.Borrow.{Bor}
 use Rattle.std.specs.List.{list_any}
 use Rattle.std.proofs.lemmas.List.{drop_all, drop_more}
@@ -8,13 +8,13 @@ use Rattle.std.proofs.lemmas.Bool.Decides.{eqb_tells}
 use Rattle.trie_model.specs.Node.{IsNode, IsNodeWithin, Node}
 use Rattle.trie_model.specs.Trie.{after_prefix}
 use Rattle.trie_codec.specs.NodeParts.{IsChildOf, child_bytes}
-use Rattle.trie_codec.specs.Reading.{most_nibbles, node_of_bytes}
+use Rattle.trie_codec.specs.Reading.{is_nothing, most_nibbles, node_of_bytes}
 use Rattle.trie_codec.specs.declared.fault.CodecFault.{CodecFault}
 use Rattle.trie_codec.specs.declared.node_ref.ChildRef.{ChildRef}
 use Rattle.trie_codec.specs.declared.node_ref.ChildRef.TheVariants as child
 use Rattle.trie_root.proofs.Levels.{length-after_prefix}
 use Rattle.trie_root.proofs.Rows.{unlike}
-use Rattle.trie_read.specs.Depth.{child_too_deep, is_long_value, too_deep}
+use Rattle.trie_read.specs.Depth.{child_too_deep, is_bad_node, is_long_value, too_deep}
 use Rattle.trie_read.specs.inner.Descent.{IsSized, Outcome, Ended, Wants, child_way, way_after, way_down}
 
 -- ---- whether a key goes on with a partial key
@@ -179,3 +179,8 @@ inline_deep deep c n h e = let short : nat_lt (length c) 32 ≡ true = grind ari
 
 pub inline_unread : (deep : Node → Bool) (c : List ℕ) (f : CodecFault) → length c < 32 → node_of_bytes c ≡ Err f → false ≡ child_too_deep deep (Some c)
 inline_unread deep c f h e = let short : nat_lt (length c) 32 ≡ true = grind arith in rw (short, e) refl
+
+pub far_is_bad : (at : ℕ) (bytes : List ℕ) (n : Node) → node_of_bytes bytes ≡ Ok n → 2048 < at → false ≡ not (is_bad_node at bytes)
+far_is_bad at bytes n e h =
+    let deep : true ≡ too_deep 33 at n = deep_here 33 at n (omega arith) (past at (length n.partial) (is_long_value n.value) (omega arith)) in
+    rw e (ap (λ b. not (b || (nat_lt 0 at && is_nothing bytes))) deep)

@@ -1,9 +1,8 @@
 -- A key's way down a node leads to the next stored node on it, or to the key's value.
-use Rattle.std.proofs.Common.{◌≡◌, ◌⊎◌, ℕ, zero, suc, ◌+◌, ◌-◌, ◌<◌, ◌≤◌, Bool, true, false, eqb, ltb, cond, List, [], ◌∷◌, ◌++◌, length, get_or, Option, Some, None, refl, ap, subst, sym, ◌∙◌, inl, inr, arith, append_assoc, eq-eqb}
+use Rattle.std.proofs.Common.{◌≡◌, ℕ, zero, suc, ◌<◌, ◌≤◌, true, false, eqb, ltb, cond, List, [], ◌∷◌, ◌++◌, length, get_or, Option, Some, None, refl, ap, subst, sym, ◌∙◌, inl, inr, arith, append_assoc}
 use Rattle.std.specs.Prelude.{Ok, filter}
 use Rattle.std.specs.List.{flat_map}
 use Rattle.std.proofs.lemmas.Bool.{cases_lt}
-use Rattle.std.proofs.lemmas.Bool.Decides.{leb_tells}
 use Rattle.std.proofs.lemmas.List.Elements.{All-get_or}
 use Rattle.sdb_blake2.specs.Blake2b.{H}
 use Rattle.trie_model.specs.Fetches.{on_the_way}
@@ -16,9 +15,9 @@ use Rattle.trie_root.proofs.Depths.{within_more}
 use Rattle.trie_root.proofs.Levels.{levels_above_none, same_node}
 use Rattle.trie_root.proofs.Prefixes.{below-append}
 use Rattle.trie_root.proofs.Rows.{unlike}
-use Rattle.trie_read.specs.Paths.{child_at, child_path, node_at}
-use Rattle.trie_read.specs.inner.Descent.{Outcome, Ended, Wants, child_way, inline_way, way_after, way_down}
-use Rattle.trie_read.specs.inner.Following.{AreOnTheWay, IsFollowed, WantsNext, head_at, way_from}
+use Rattle.trie_read.specs.Paths.{child_path, node_at}
+use Rattle.trie_read.specs.inner.Descent.{Outcome, Ended, Wants, child_way, way_after, way_down}
+use Rattle.trie_read.specs.inner.Following.{IsFollowed, WantsNext, head_at, way_from}
 use Rattle.trie_read.proofs.Binding.{from_path, none_or_some}
 use Rattle.trie_read.proofs.Children.{child_of, partial_of, value_of}
 use Rattle.trie_read.proofs.Hanging.{below-nil, fits_below, is_nibble}
@@ -27,8 +26,7 @@ use Rattle.trie_read.proofs.Descents.{hashed_way, inline_ok}
 use Rattle.trie_read.proofs.Stored.{is_kept}
 use Rattle.trie_read.proofs.Ways.{on_its_way, put_back, value_off, value_on, way_beyond, way_ends, way_goes_on}
 
-
-tail_alike : (a b : PathNode) (xs ys : List PathNode) → a ∷ xs ≡ b ∷ ys → xs ≡ ys
+pub tail_alike : (a b : PathNode) (xs ys : List PathNode) → a ∷ xs ≡ b ∷ ys → xs ≡ ys
 tail_alike a b xs ys e = cc
 
 spelled_whole : (d : ℕ) (ts : List Suffix) → levels_of ts ≤ suc d → spelling (node_over (suc d) ts) ≡ spelling (node_of_all ts)
@@ -73,16 +71,17 @@ get_or_past (c ∷ cs) zero h = absurd (omega arith)
 get_or_past (c ∷ cs) (suc i) h = get_or_past cs i (omega arith)
 
 -- the node at a path stands first on the way from it
-first_on : (d : ℕ) (ss : List Suffix) (q ks : List ℕ) → levels_of (below q ss) ≤ d → (t : List PathNode) × (way_from d ss q ks ≡ head_at ss q ∷ t)
+pub first_on : (d : ℕ) (ss : List Suffix) (q ks : List ℕ) → levels_of (below q ss) ≤ d → (t : List PathNode) × (way_from d ss q ks ≡ head_at ss q ∷ t)
 unfolding nodes_over
 first_on zero ss q ks fits = absurd (omega (arith, levels_above_none (below q ss)))
 first_on (suc d) ss q ks fits =
     let us : List Suffix = below q ss in
     let b : List ℕ = spelling (node_over (suc d) us) in
-    let xs : List PathNode = flat_map (λ i. if_any (nodes_over d (q ++ (common_prefix us ++ i ∷ []))) (below (common_prefix us ++ i ∷ []) us)) every_nibble in
-    (filter (on_the_way (q ++ ks)) xs,
-    ap (λ t. cond t (record { path = q; bytes = b } ∷ filter (on_the_way (q ++ ks)) xs) (filter (on_the_way (q ++ ks)) xs)) (on_its_way q ks b)
-    ∙ ap (λ (bytes : List ℕ). let n : PathNode = record { path = q; bytes = bytes } in n ∷ filter (on_the_way (q ++ ks)) xs) (spelled_whole d us fits))
+    let xs : List PathNode = flat_map (λ i. if_any (nodes_over d (q ++ (common_prefix us ++ i ∷ []))) (below (common_prefix us ++ i ∷ []) us)) every_nibble in (
+      filter (on_the_way (q ++ ks)) xs,
+      ap (λ t. cond t (record { path = q; bytes = b } ∷ filter (on_the_way (q ++ ks)) xs) (filter (on_the_way (q ++ ks)) xs)) (on_its_way q ks b)
+          ∙ ap (λ (bytes : List ℕ). let n : PathNode = record { path = q; bytes = bytes } in n ∷ filter (on_the_way (q ++ ks)) xs) (spelled_whole d us fits),
+    )
 
 -- what child of a node a key's way takes
 child_none : (g : Node → List ℕ → Outcome) (o : Option (List ℕ)) (rest : List ℕ) → o ≡ None → Ended None ≡ child_way g o rest
@@ -155,6 +154,7 @@ at_child l d ss s p ks q rest j few w small t deeper path whole fits child nodes
             path = q;
             whole = whole;
             is_hash = refl;
+            stored = kept;
             rest = filter is_stored first.0;
             first = list;
             on_the_way = record { depth = d; enough = fits; all = ap (filter is_stored) nodes };
@@ -170,9 +170,10 @@ cases l d ss s p ks few fits w t e deeper None r =
     (ap (filter is_stored) (tail_alike _ _ t [] (sym e ∙ way_ends d p ks ts (inl r))), sym (value_there ss p ks ∙ value_off ks ts r))
 cases l d ss s p ks few fits w t e deeper (Some []) r =
     let ts : List Suffix = below p ss in
-    let c : List ℕ = common_prefix ts in
-    (ap (filter is_stored) (tail_alike _ _ t [] (sym e ∙ way_ends d p ks ts (inr r))),
-    value_of ts ∙ ap (λ (q : List ℕ). value_here (below q ts)) (partial_of ts) ∙ ap value_here (sym (below-nil (below c ts))) ∙ sym (value_there ss p ks ∙ value_on ks ts [] r))
+    let c : List ℕ = common_prefix ts in (
+      ap (filter is_stored) (tail_alike _ _ t [] (sym e ∙ way_ends d p ks ts (inr r))),
+      value_of ts ∙ ap (λ (q : List ℕ). value_here (below q ts)) (partial_of ts) ∙ ap value_here (sym (below-nil (below c ts))) ∙ sym (value_there ss p ks ∙ value_on ks ts [] r),
+    )
 cases l d ss s p ks few fits w t e deeper (Some (j ∷ rest)) r =
     let n : Node = node_at ss p in
     let ts : List Suffix = below p ss in
@@ -216,6 +217,7 @@ cases l d ss s p ks few fits w t e deeper (Some (j ∷ rest)) r =
   where
     regrouped : (a b : List ℕ) (i : ℕ) (k : List ℕ) → a ++ (b ++ (i ∷ k)) ≡ (a ++ (b ++ (i ∷ []))) ++ k
     regrouped a b i k = simp append_assoc
+
     all_there : (f : List Suffix → List PathNode) (us : List Suffix) → (us ≡ [] → ⊥) → if_any f us ≡ f us
     all_there f [] z = absurd (z refl)
     all_there f (u ∷ us) z = refl

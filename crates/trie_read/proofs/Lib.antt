@@ -9,3 +9,4 @@ pub mod Binding
 pub mod Ways
 pub mod Descents
 pub mod Followed
+pub mod NextStage

@@ -34,7 +34,6 @@ pub length-hash : (m : List ℕ) → length (H m) ≡ 32
 unfolding H digest
 length-hash m = length-take-le 32 (state_bytes (final_state 32 m) 8) (omega (arith, length-state_bytes (final_state 32 m) 8))
 
-
 pub nibbles_in : (ss : List Suffix) → Sound ss → AllByRecursion InNibbles ss
 nibbles_in ss s = all_weaker IsSuffix InNibbles (λ t h. recursion_from_All (λ n. n < 16) t.0 h.nibbles) ss s.within
 

@@ -2,3 +2,4 @@ pub mod Paths
 pub mod Collision
 pub mod Depth
 pub mod inner
+pub mod Reads

@@ -6,7 +6,7 @@ ghost use Rattle.trie_model.specs.Trie.{after_prefix};
 ghost use Rattle.trie_codec.specs.NodeParts.{child_bytes, node_of_ref};
 ghost use Rattle.trie_codec.specs.Slices.{bytes_in};
 ghost use Rattle.trie_read.specs.Depth.{child_too_deep, is_bad_node, is_long_value, too_deep};
-ghost use Rattle.trie_read.specs.inner.Descent.{IsSized, outcome_of, way_down};
+ghost use Rattle.trie_read.specs.inner.Descent.{FitsKey, IsSized, outcome_of, way_down};
 
 use trie_codec::{ChildRef, NodeRef};
 
@@ -17,7 +17,7 @@ const MOST_NIBBLES: usize = 2048;
 const MOST_IN_VALUE: usize = 4_194_304;
 
 /// A node and the inline ones in it are at most so many, one below the other, since an inline one has fewer than 32 bytes.
-const MOST_LEVELS: u8 = 33;
+pub(crate) const MOST_LEVELS: u8 = 33;
 
 // Where a key's way down a node and the inline ones in it ends.
 #[derive(Clone, Copy)]
@@ -59,7 +59,8 @@ fn goes_on(key: &[u8], at: usize, node: &NodeRef) -> bool
 // The way of a key down a node that hangs after `at` of its nibbles, and down the inline ones in it.
 pub(crate) fn walk<'a>(levels: u8, key: &[u8], at: usize, node: &NodeRef<'a>) -> Found<'a>
     requires { at ≤ 2 * length key.now }
-    ensures { outcome_of (nibbles_of key.now) result ≡ way_down levels (node_of_ref node.now) (drop at (nibbles_of key.now)) }
+    ensures fits { FitsKey (2 * length key.now) result }
+    ensures outcome { outcome_of (nibbles_of key.now) result ≡ way_down levels (node_of_ref node.now) (drop at (nibbles_of key.now)) }
 {
     if levels == 0 || !goes_on(key, at, node) {
         return Found::Ended(None);
@@ -127,13 +128,15 @@ fn is_child_too_deep(levels: u8, at: usize, child: ChildRef) -> bool
 
 // The node that bytes spell where it hangs after `at` nibbles, unless they are bad.
 pub(crate) fn read_at(at: usize, bytes: &[u8]) -> Option<NodeRef<'_>>
-    requires { at ≤ 2048 }
     ensures good { is_some result ≡ not (is_bad_node at bytes.entry.now) }
     ensures node { IfSome result (λ r. node_of_bytes bytes.entry.now ≡ Ok (node_of_ref r)) }
 {
     let Ok(node) = NodeRef::read(bytes) else {
         return None;
     };
+    if at > MOST_NIBBLES {
+        return None;
+    }
     if hangs_too_deep(MOST_LEVELS, at, &node) || (at > 0 && bytes == [0].as_slice()) {
         return None;
     }

@@ -7,11 +7,6 @@ ghost use Rattle.trie_model.specs.Nodes.{PathNode, all_over, dropped_nodes, if_a
 ghost use Rattle.trie_model.specs.State.{State};
 ghost use Rattle.trie_model.specs.Trie.{Suffix, after_prefix, below, child_value, common_prefix, node_of_all, node_over, suffixes_of, trie_root, value_here};
 ghost use Rattle.trie_root.specs.Suffixes.{IsEntry};
-ghost use Rattle.trie_read.specs.inner.Following.{IsFollowed, Sound, head_at, way_from};
-ghost use Rattle.trie_read.specs.inner.Descent.{way_down};
-ghost use Rattle.trie_model.specs.Node.{IsNodeWithin};
-ghost use Rattle.trie_model.specs.Nodes.{is_stored};
-ghost use Rattle.trie_model.specs.Trie.{levels_of};
 ghost use Rattle.trie_read.specs.Collision.{HaveCollision};
 ghost use Rattle.trie_read.specs.Paths.{AreNibbles, Hangs, IsHung, IsLong, IsNamed, RiseByPath, child_at, child_path, node_at};
 
@@ -91,10 +86,4 @@ pub fn a_value_is_at_the_end_of_its_key()
         → value_here (below rest suffixes) ≡ None }
     ensures on { (rest left : List ℕ) (suffixes : List Suffix) → after_prefix (common_prefix suffixes) rest ≡ Some left
         → value_here (below rest suffixes) ≡ value_here (below left (below (common_prefix suffixes) suffixes)) }
-{}
-
-/// Temporary.
-pub fn a_way_leads_on()
-    ensures { (l d : ℕ) (ss : List Suffix) → Sound ss → (p ks : List ℕ) → l ≤ 33 → levels_of (below p ss) ≤ d → IsNodeWithin l (node_at ss p) → (t : List PathNode)
-    → way_from d ss p ks ≡ head_at ss p ∷ t → IsFollowed ss (p ++ ks) (way_down l (node_at ss p) ks) (filter is_stored t) }
 {}

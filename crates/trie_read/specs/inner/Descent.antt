@@ -1,5 +1,5 @@
 -- A key's way down a node and the inline nodes in it.
-use Rattle.std.specs.Prelude.{◌≡◌, ◌<◌, ℕ, zero, suc, ◌==◌, List, [], ◌∷◌, length, drop, slice_index_or, Option, Some, None, if◌then◌else◌, Result, Ok, Err}
+use Rattle.std.specs.Prelude.{◌≡◌, ◌<◌, ◌≤◌, ℕ, zero, suc, ◌==◌, List, [], ◌∷◌, length, drop, slice_index_or, Option, Some, None, if◌then◌else◌, Result, Ok, Err}
 use Rattle.trie_model.specs.Node.{Node}
 use Rattle.trie_model.specs.Trie.{after_prefix}
 use Rattle.trie_codec.specs.Reading.{node_of_bytes}
@@ -42,3 +42,8 @@ abbrev pub IsSized : ChildRef → Type 0
 IsSized child.None = Unit {0}
 IsSized (child.Inline bytes) = length bytes.now < 32
 IsSized (child.Hashed hash) = length hash.now ≡ 32
+
+-- the next node hangs within the key, and its hash is one
+abbrev pub FitsKey : ℕ → Found → Type 0
+FitsKey most (found.Ended value) = Unit {0}
+FitsKey most (found.Wants hash at) = (at ≤ most) × (length hash.now ≡ 32)

@@ -1,5 +1,5 @@
 -- Where a key's way down a node ends, by the trie.
-use Rattle.std.specs.Prelude.{◌≡◌, T, ℕ, ◌≤◌, List, [], ◌∷◌, ◌++◌, filter}
+use Rattle.std.specs.Prelude.{◌≡◌, T, true, ℕ, ◌≤◌, List, [], ◌∷◌, ◌++◌, filter}
 use Rattle.std.specs.List.{AllByRecursion}
 use Rattle.std.specs.Ordering.{nat_cmp}
 use Rattle.std.specs.Cmp.Lexicographic.{slice_cmp}
@@ -36,6 +36,7 @@ pub record WantsNext (suffixes : List Suffix) (key : List ℕ) (hash left : List
   pub path : List ℕ
   pub whole : key ≡ path ++ left
   pub is_hash : hash ≡ H (spelling (node_at suffixes path))
+  pub stored : is_stored (head_at suffixes path) ≡ true
   pub rest : List PathNode
   pub first : nodes ≡ record { path = path; bytes = spelling (node_at suffixes path) } ∷ rest
   pub on_the_way : AreOnTheWay suffixes path left nodes

@@ -1,11 +1,10 @@
-use Rattle.std.proofs.Common.{◌≡◌, ℕ, ◌+◌, ◌-◌, ◌<◌, Bool, true, false, length, arith, ap, subst, sym, ◌∙◌}
+use Rattle.std.proofs.Common.{ℕ, ◌+◌, ◌-◌, ◌<◌, Bool, length, arith, ap, subst, sym, ◌∙◌}
 use Rattle.trie_codec.specs.NodeParts.{child_bytes, node_of_ref}
-use Rattle.trie_codec.specs.Slices.{bytes_in}
 use Rattle.trie_model.specs.Node.{Node}
 use Rattle.trie_codec.specs.declared.node_ref.ChildRef.{ChildRef}
 use Rattle.trie_read.specs.inner.Descent.{IsSized}
 use Rattle.trie_read.specs.Depth.{child_too_deep, is_long_value, too_deep}
-use Rattle.trie_read.proofs.Descents.{any_end, any_here, any_on, deep_below, deep_here, deep_none, has_sixteen, inline_deep, inline_unread, not_inline, not_past, past, past_value, sized}
+use Rattle.trie_read.proofs.Descents.{any_end, any_here, deep_below, deep_here, deep_none, has_sixteen, inline_deep, not_inline, not_past, past, past_value}
 use Rattle.trie_read.proofs.descent.+depth.Goals as goal
 use Rattle.trie_read.proofs.descent.+depth.Goals.{hangs_too_deep-then-at-gt-MOST_NIBBLES-via-then-at-gt-MOST_NIBBLES, hangs_too_deep-then-at-gt-MOST_NIBBLES-via-else-at-gt-MOST_NIBBLES+then-len-at, hangs_too_deep-then-at-gt-MOST_NIBBLES-via-else-at-gt-MOST_NIBBLES+else-len-at+then-is_long}
 

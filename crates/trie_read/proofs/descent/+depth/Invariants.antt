@@ -1,4 +1,4 @@
-use Rattle.std.proofs.Common.{◌≡◌, ◌+◌, ◌*◌, ◌-◌, drop, length}
+use Rattle.std.proofs.Common.{◌≡◌, ◌+◌, ◌*◌, ◌-◌, drop}
 use Rattle.std.specs.List.{list_any}
 use Rattle.trie_codec.specs.NodeParts.{node_of_ref}
 use Rattle.trie_read.specs.Depth.{child_too_deep, too_deep}
