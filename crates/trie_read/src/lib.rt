@@ -22,3 +22,6 @@ pub use laws::{
     nodes_rise_by_path, puts_and_drops_balance,
 };
 pub use read_job::ReadJob;
+
+#[cfg(test)]
+mod tests;
