@@ -1,0 +1,12 @@
+pub mod Rising
+pub mod Among
+pub mod Hanging
+pub mod Stored
+pub mod Children
+pub mod Balance
+pub mod Sound
+pub mod Binding
+pub mod Ways
+pub mod Descents
+pub mod Followed
+pub mod NextStage

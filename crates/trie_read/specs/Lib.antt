@@ -1,0 +1,5 @@
+pub mod Paths
+pub mod Collision
+pub mod Depth
+pub mod inner
+pub mod Reads
