@@ -7,34 +7,32 @@ use Rattle.std.proofs.lemmas.List.FromFn.{get_or-map-range_with_len}
 use Rattle.trie_model.specs.Node.{Node, merkle_value, spelling}
 use Rattle.trie_model.specs.Nodes.{PathNode, all_over, is_stored, stored_over}
 use Rattle.trie_model.specs.Trie.{Suffix, below, child_value, common_prefix, levels_of, node_of_all, value_here}
-use Rattle.trie_root.specs.inner.Groups.{child_below, children_over}
 use Rattle.trie_root.proofs.Levels.{levels_above_none}
-use Rattle.trie_root.proofs.OneLevel.{one_level}
 use Rattle.trie_root.proofs.Prefixes.{below-append}
 use Rattle.trie_root.proofs.ReadOffNibbles.{InNibbles, shorter_in_nibbles}
 use Rattle.trie_root.proofs.ReadOffOrder.{all_below}
 use Rattle.trie_root.proofs.ShapesShared.{nothing_shared}
 use Rattle.trie_read.specs.Paths.{AreNibbles, Hangs, IsHung, IsNamed, child_at, child_path, node_at}
+use Rattle.trie_read.proofs.OneNode.{children_of, one_node}
 use Rattle.trie_read.proofs.Among.{among_from, contains_from, kept_among}
 use Rattle.trie_read.proofs.Hanging.{Above, Way, below-nil, fits_below, hangs_further, is_nibble, way}
 use Rattle.trie_read.proofs.Stored.{among_hung, in_nibbles, is_hung, is_kept}
 
 pub partial_of : (ss : List Suffix) → (node_of_all ss).partial ≡ common_prefix ss
-partial_of ss = ap (λ (n : Node). n.partial) (one_level ss)
+partial_of ss = ap (λ (n : Node). n.partial) (one_node ss)
 
 pub value_of : (ss : List Suffix) → (node_of_all ss).value ≡ value_here (below (node_of_all ss).partial ss)
-value_of ss = ap (λ (n : Node). n.value) (one_level ss) ∙ ap (λ (p : List ℕ). value_here (below p ss)) (sym (partial_of ss))
+value_of ss = ap (λ (n : Node). n.value) (one_node ss) ∙ ap (λ (p : List ℕ). value_here (below p ss)) (sym (partial_of ss))
 
-child_here : (ss : List Suffix) (i : ℕ) → i < 16 → get_or (children_over ss) i None ≡ child_below ss i
-unfolding children_over
-child_here ss i h = get_or-map-range_with_len (child_below ss) 0 16 i i None h (omega arith)
+child_here : (ss : List Suffix) (i : ℕ) → i < 16 → get_or (children_of ss) i None ≡ child_value node_of_all (below (i ∷ []) ss)
+child_here ss i h = get_or-map-range_with_len (λ n. child_value node_of_all (below (n ∷ []) ss)) 0 16 i i None h (omega arith)
 
 -- the child of a node at a nibble, by the suffixes that go on from it
 pub child_of : (ss : List Suffix) (path : List ℕ) (i : ℕ) → i < 16 → child_at ss path i ≡ child_value node_of_all (below (child_path ss path i) ss)
 child_of ss path i h =
     let ts : List Suffix = below path ss in
     let p : List ℕ = common_prefix ts in
-    ap (λ (n : Node). get_or n.children i None) (one_level ts) ∙ child_here (below p ts) i h
+    ap (λ (n : Node). get_or n.children i None) (one_node ts) ∙ child_here (below p ts) i h
     ∙ ap (child_value node_of_all) (sym (below-append p (i ∷ []) ts) ∙ sym (below-append path (p ++ i ∷ []) ss)
     ∙ ap (λ (q : List ℕ). below (path ++ (q ++ i ∷ [])) ss) (sym (partial_of ts)))
 

@@ -2,6 +2,7 @@ pub mod Rising
 pub mod Among
 pub mod Hanging
 pub mod Stored
+pub mod OneNode
 pub mod Children
 pub mod Balance
 pub mod Sound

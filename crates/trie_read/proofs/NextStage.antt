@@ -14,7 +14,7 @@ use Rattle.trie_codec.proofs.Spellings.{whole_read}
 use Rattle.trie_codec.specs.declared.fault.CodecFault.{CodecFault}
 use Rattle.trie_root.specs.Suffixes.{IsEntry}
 use Rattle.trie_read.specs.Paths.{node_at}
-use Rattle.trie_read.specs.Reads.{IsStage, Waits, wanted_of}
+use Rattle.trie_read.specs.Reads.{IsStage, WaitsFor, wanted_of}
 use Rattle.trie_read.specs.declared.read_job.ReadJob.{ReadJob}
 use Rattle.trie_read.specs.inner.Descent.{Ended, Wants, way_down}
 use Rattle.trie_read.specs.inner.Following.{AreOnTheWay, IsFollowed, Sound, WantsNext, head_at, way_from}
@@ -57,7 +57,7 @@ pub wants_stage : (j : ReadJob) (m : State) (todo : List PathNode) (hash : List 
     → IsFollowed (suffixes_of m) (nibbles_of j.key) (Wants hash (drop j.at (nibbles_of j.key))) todo → IsStage j m todo
 wants_stage j m todo hash wanted f =
     let w : WantsNext (suffixes_of m) (nibbles_of j.key) hash (drop j.at (nibbles_of j.key)) todo = f in
-    let waits : Waits j m (head_at (suffixes_of m) w.path) w.rest = record {
+    let waits : WaitsFor j m (head_at (suffixes_of m) w.path) w.rest = record {
       wanted = wanted ∙ ap Some w.is_hash;
       whole = w.whole;
       bytes = refl;
@@ -94,7 +94,7 @@ first_stage j m wanted at =
     let all : read_fetches m j.key ≡ filter is_stored (way_from d ss [] key) =
     filters_swap (on_the_way key) is_stored (nodes_over d [] ss) ∙ ap (λ (us : List Suffix). filter is_stored (filter (on_the_way key) (nodes_over d [] us))) (sym (below-nil ss)) in
     let list : read_fetches m j.key ≡ head_at ss [] ∷ filter is_stored first.0 = all ∙ ap (filter is_stored) first.1 in
-    let waits : Waits j m (head_at ss []) (filter is_stored first.0) = record {
+    let waits : WaitsFor j m (head_at ss []) (filter is_stored first.0) = record {
       wanted = wanted ∙ ap (λ (us : List Suffix). Some (H (spelling (node_of_all us)))) (sym (below-nil ss));
       whole = sym left;
       bytes = refl;

@@ -21,8 +21,8 @@ abbrev pub wanted_of : ReadJob → Option (List ℕ)
 wanted_of j = option_map (λ (h : NodeHash). h.0) j.wanted
 
 -- after how many nibbles of its key the wanted node hangs
-abbrev pub place_of : ReadJob → ℕ
-place_of j = j.at
+abbrev pub nibbles_before : ReadJob → ℕ
+nibbles_before j = j.at
 
 -- a bad node is that of the wanted hash
 abbrev pub MatchFault : TrieFault → Type 0 → Type 0 → Option (List ℕ) → Type 0
@@ -30,7 +30,7 @@ MatchFault (BadNode hash) Bad Good wanted = Bad × (wanted ≡ Some hash.0)
 MatchFault OutOfMemory Bad Good wanted = Good
 
 -- it waits for a node on the way of its key, after which the others come
-pub record Waits (j : ReadJob) (m : State) (n : PathNode) (others : List PathNode) : Type 0 where
+pub record WaitsFor (j : ReadJob) (m : State) (n : PathNode) (others : List PathNode) : Type 0 where
   pub wanted : wanted_of j ≡ Some (H n.bytes)
   pub whole : nibbles_of j.key ≡ n.path ++ drop j.at (nibbles_of j.key)
   pub bytes : n.bytes ≡ spelling (node_at (suffixes_of m) n.path)
@@ -39,7 +39,7 @@ pub record Waits (j : ReadJob) (m : State) (n : PathNode) (others : List PathNod
 
 abbrev pub IsStage : ReadJob → State → List PathNode → Type 0
 IsStage j m [] = (j.wanted ≡ None) × (j.value ≡ get m j.key)
-IsStage j m (n ∷ others) = Waits j m n others
+IsStage j m (n ∷ others) = WaitsFor j m n others
 
 -- the job reads the key of the state, and these nodes are still to be fed
 pub record IsReading (j : ReadJob) (m : State) (of : List ℕ) (todo : List PathNode) : Type 0 where

@@ -28,7 +28,7 @@ impl ReadJob {
     ghost use Rattle.trie_model.specs.Trie.{trie_root};
     ghost use Rattle.trie_root.specs.Suffixes.{IsEntry};
     ghost use Rattle.trie_read.specs.Depth.{is_bad_node};
-    ghost use Rattle.trie_read.specs.Reads.{IsReading, MatchFault, place_of, wanted_of};
+    ghost use Rattle.trie_read.specs.Reads.{IsReading, MatchFault, nibbles_before, wanted_of};
 
     /// A read of a key of the state of that root.
     pub fn new(alloc: Global, root: NodeHash, key: Bytes) -> Result<ReadJob, OutOfMemory>
@@ -56,10 +56,10 @@ impl ReadJob {
         requires { is_some (wanted_of self.old) ≡ true }
         ensures read { (m : State) (key : List ℕ) (n : PathNode) (todo : List PathNode) → IsReading self.old m key (n ∷ todo)
             → bytes.now ≡ n.bytes → OnOk result (IsReading self.new m key todo) }
-        ensures bad { OnOk result (is_bad_node (place_of self.old) bytes.now ≡ false) }
+        ensures bad { OnOk result (is_bad_node (nibbles_before self.old) bytes.now ≡ false) }
         ensures err { OnErr result (self.new ≡ self.old) }
-        ensures fault { IfErr result (λ f. MatchFault f (is_bad_node (place_of self.old) bytes.now ≡ true)
-            (is_bad_node (place_of self.old) bytes.now ≡ false) (wanted_of self.old)) }
+        ensures fault { IfErr result (λ f. MatchFault f (is_bad_node (nibbles_before self.old) bytes.now ≡ true)
+            (is_bad_node (nibbles_before self.old) bytes.now ≡ false) (wanted_of self.old)) }
     {
         let Some(hash) = self.wanted else {
             unreachable!()

@@ -5,7 +5,7 @@ use Rattle.trie_codec.specs.Reading.{node_of_bytes}
 use Rattle.trie_codec.specs.Slices.{bytes_in}
 use Rattle.trie_model.specs.Node.{Node}
 use Rattle.trie_model.specs.Trie.{suffixes_of}
-use Rattle.trie_read.specs.Reads.{Waits}
+use Rattle.trie_read.specs.Reads.{WaitsFor}
 use Rattle.trie_read.specs.inner.Descent.{Ended, Outcome, Wants, way_down}
 use Rattle.trie_read.specs.inner.Following.{IsFollowed}
 use Rattle.trie_read.proofs.NextStage.{ended_stage, next, wants_stage}
@@ -16,7 +16,7 @@ returns-in-Ok-clause-read c = λ m key n todo reading bytes.
     let j = c.args.self.now in
     let ns : List ℕ = nibbles_of j.key in
     let found : Node = node_of_ref c.in-Some-read_at.node in
-    let w : Waits j m n todo = reading.stage in
+    let w : WaitsFor j m n todo = reading.stage in
     let f : IsFollowed (suffixes_of m) ns (way_down 33 found (drop j.at ns)) todo =
     next m reading.within ns j.at n todo w.whole w.bytes w.stored w.nodes found (ap node_of_bytes (sym bytes) ∙ c.in-Some-read_at.ensures.node) in
     let is : Ended (bytes_in c.in-Ended.value) ≡ way_down 33 found (drop j.at ns) =
@@ -33,7 +33,7 @@ returns-in-Wants-clause-read c = λ m key n todo reading bytes.
     let j = c.args.self.now in
     let ns : List ℕ = nibbles_of j.key in
     let found : Node = node_of_ref c.in-Some-read_at.node in
-    let w : Waits j m n todo = reading.stage in
+    let w : WaitsFor j m n todo = reading.stage in
     let f : IsFollowed (suffixes_of m) ns (way_down 33 found (drop j.at ns)) todo =
     next m reading.within ns j.at n todo w.whole w.bytes w.stored w.nodes found (ap node_of_bytes (sym bytes) ∙ c.in-Some-read_at.ensures.node) in
     let is : Wants c.in-Wants.hash.now (drop c.in-Wants.at ns) ≡ way_down 33 found (drop j.at ns) =
