@@ -1,0 +1,2 @@
+-- What clauses of private functions cite; nothing outside the crate does.
+pub mod Fields
