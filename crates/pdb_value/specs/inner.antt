@@ -1,2 +1,4 @@
 -- What clauses of private functions cite; nothing outside the crate does.
 pub mod Fields
+pub mod HeadCells
+pub mod Steps

@@ -1,8 +1,11 @@
 //! Values in the slots of a column's tables.
 #![tactic(auto)]
 
+mod cells;
 mod fault;
+mod heads;
 mod reading;
+mod slots;
 mod tiers;
 mod writing;
 

@@ -49,8 +49,8 @@ struct Linked<'a> {
     rest: &'a [u8],
 }
 
-// whether all bytes are zeros
-fn is_zeros(bytes: &[u8]) -> bool
+/// Whether all bytes are zeros.
+pub(crate) fn is_zeros(bytes: &[u8]) -> bool
     ensures { IsTrue result ↔ (bytes.now ≡ replicate (length bytes.now) 0) }
 {
     bytes.iter().all(|byte| *byte == 0)

@@ -1,0 +1,20 @@
+-- What a step does with a column's cells: a slot of a tier is taken, or freed.
+use Rattle.std.specs.Prelude.{◌≡◌, ◌≢◌, ℕ, ◌≤◌, List}
+use Rattle.pdb_cells.specs.Content.{Content}
+use Rattle.pdb_cells.specs.Sizes.{head_file}
+use Rattle.pdb_model.specs.Files.{OnlyTable, head_cell, table_cells}
+use Rattle.pdb_model.specs.Heads.{IsHeadCell}
+use Rattle.pdb_model.specs.Tables.{Loose, Table, freed, next_slot, taken}
+use Rattle.pdb_value.specs.Faults.{HasTable}
+
+pub record IsTaken (column tier : ℕ) (before after : Content) (slot : ℕ) : Type 0 where
+  pub only : OnlyTable column tier before after
+  pub head : IsHeadCell (head_cell after column)
+  pub from_one : 1 ≤ slot
+  pub table : (t : Table) → HasTable before column tier t → (slot ≡ next_slot t.free t.end) × HasTable after column tier (taken t)
+
+pub record IsFreed (column tier : ℕ) (before after : Content) (slot : ℕ) : Type 0 where
+  pub only : OnlyTable column tier before after
+  pub head : IsHeadCell (head_cell after column)
+  pub others : (i : ℕ) → i ≢ slot → table_cells after column tier i ≡ table_cells before column tier i
+  pub table : (t : Table) → HasTable before column tier t → t.slot slot ≡ Loose → HasTable after column tier (freed t slot)
