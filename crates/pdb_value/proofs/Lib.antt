@@ -5,3 +5,4 @@ pub mod Written
 pub mod Sound
 pub mod Spelled
 pub mod Broken
+pub mod Chains

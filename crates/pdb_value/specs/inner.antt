@@ -2,3 +2,5 @@
 pub mod Fields
 pub mod HeadCells
 pub mod Steps
+pub mod Firsts
+pub mod Parts

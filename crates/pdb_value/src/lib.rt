@@ -3,7 +3,9 @@
 
 mod cells;
 mod fault;
+mod firsts;
 mod heads;
+mod parts;
 mod reading;
 mod slots;
 mod tiers;
