@@ -6,3 +6,7 @@ pub mod Sound
 pub mod Spelled
 pub mod Broken
 pub mod Chains
+pub mod Lists
+pub mod Held
+pub mod FirstSlots
+pub mod Recounted

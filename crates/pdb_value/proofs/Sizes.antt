@@ -1,5 +1,5 @@
 -- The sizes of slots and of the files that they lie in.
-use Rattle.std.proofs.Common.{◌≡◌, ◌+◌, ◌*◌, ◌<◌, ◌≤◌, ℕ, zero, suc, Some, refl, ap, ◌∙◌, arith}
+use Rattle.std.proofs.Common.{◌≡◌, ◌+◌, ◌*◌, ◌<◌, ◌≤◌, ℕ, zero, suc, Some, refl, sym, ap, subst, ◌∙◌, arith}
 use Rattle.pdb_cells.specs.Sizes.{size_of}
 use Rattle.pdb_model.specs.Tiers.{slot_size, tier_of}
 use Rattle.std.proofs.lemmas.Bool.Decides.{nat_tests}
@@ -55,3 +55,17 @@ tier_of_long len h = grind (arith, nat_tests)
 -- a value that goes to a tier for whole values is short
 pub whole_short : (len tier : ℕ) → tier < 15 → tier ≡ tier_of len → len ≤ 32724
 whole_short len tier h e = elim (cases_lt 32724 len) [ inl far ↦ let q = tier_of_long len far in absurd (omega arith) | inr near ↦ near ]
+
+tier_of_short : (len : ℕ) → len ≤ 32724 → tier_of len < 15
+tier_of_short len h = grind (arith, nat_tests)
+
+-- a value that goes to the tier of values in parts is long
+pub parts_long : (len : ℕ) → tier_of len ≡ 15 → 32724 < len
+parts_long len e = elim (cases_lt 32724 len) [ inl far ↦ far | inr near ↦ let q = tier_of_short len near in absurd (omega arith) ]
+
+fits : (len : ℕ) → tier_of len < 15 → 44 + len ≤ slot_size (tier_of len)
+fits len h = grind (arith, nat_tests)
+
+-- a value that goes to another tier fits it
+pub whole_fits : (len tier : ℕ) → tier < 15 → tier ≡ tier_of len → 44 + len ≤ slot_size tier
+whole_fits len tier h e = subst (λ k. 44 + len ≤ slot_size k) (sym e) (fits len (subst (λ k. k < 15) e h))

@@ -1,10 +1,10 @@
 -- Values in any cells whatever: what the slots of a column hold, and which cells break the rules there.
-use Rattle.std.specs.Prelude.{◌≡◌, ◌≢◌, ◌⊎◌, ◌≤◌, ℕ, List, [], ◌∷◌, length, take, drop}
+use Rattle.std.specs.Prelude.{◌≡◌, ◌≢◌, ◌⊎◌, ◌≤◌, ℕ, Bool, true, false, List, [], ◌∷◌, Option, Some, None, length, take, drop}
 use Rattle.pdb_cells.specs.Content.{Content}
 use Rattle.pdb_model.specs.Breaks.{HasEnd, IsBrokenHead, IsBrokenSlot}
 use Rattle.pdb_model.specs.Files.{table_cells}
 use Rattle.pdb_model.specs.Slots.{IsHeadOfParts, IsPart, IsWhole}
-use Rattle.pdb_model.specs.Tables.{first}
+use Rattle.pdb_model.specs.Tables.{Held, first}
 use Rattle.pdb_model.specs.Tiers.{in_head, in_part, parts_tier}
 
 -- further parts lie in these slots, one after the other, up to the end of their tier, and have these bytes
@@ -30,3 +30,23 @@ IsFirstAt cells column tier slot key count =
 -- a cell that breaks the rules where a value of a column's tier is read: the head cell, or a slot
 abbrev pub BreaksValue : Content → ℕ → ℕ → ℕ → ℕ → Type 0
 BreaksValue cells column tier file cell = IsBrokenHead cells column file cell ⊎ IsBrokenSlot cells column tier file cell
+
+-- the count of this key's value at a slot, or None where a value of another key is there
+abbrev pub IsCount : Content → ℕ → ℕ → ℕ → List ℕ → Option ℕ → Type 0
+IsCount cells column tier slot key None = (other : List ℕ) × (count : ℕ) × IsFirstAt cells column tier slot other count × (other ≢ key)
+IsCount cells column tier slot key (Some count) = IsFirstAt cells column tier slot key count
+
+-- the same of what a table's slot holds
+abbrev pub IsCountOf : Held → List ℕ → Option ℕ → Type 0
+IsCountOf h key None = h.key ≢ key
+IsCountOf h key (Some count) = (h.key ≡ key) × (h.count ≡ count)
+
+-- what a call that reads a slot's value leaves where this key's value is there, and where another key's is
+abbrev pub IsRead : Content → ℕ → ℕ → ℕ → List ℕ → List ℕ → List ℕ → Bool → Type 0
+IsRead cells column tier slot key before after true = (count : ℕ) × IsValueAt cells column tier slot key count after
+IsRead cells column tier slot key before after false = (after ≡ before) × ((other : List ℕ) × (count : ℕ) × IsFirstAt cells column tier slot other count × (other ≢ key))
+
+-- the same of what a table's slot holds
+abbrev pub IsReadOf : Held → List ℕ → List ℕ → List ℕ → Bool → Type 0
+IsReadOf h key before after true = (h.key ≡ key) × (after ≡ h.value)
+IsReadOf h key before after false = (h.key ≢ key) × (after ≡ before)

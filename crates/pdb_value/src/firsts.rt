@@ -5,7 +5,7 @@ ghost use Rattle.pdb_model.specs.Breaks.{HasEnd, IsNoValue};
 ghost use Rattle.pdb_model.specs.Files.{table_cells};
 ghost use Rattle.pdb_model.specs.Tiers.{slot_size};
 ghost use Rattle.pdb_value.specs.Faults.{FaultSays, NoTier, is_disk};
-ghost use Rattle.pdb_value.specs.inner.Firsts.{BreaksFirst, IsFirst};
+ghost use Rattle.pdb_value.specs.inner.Firsts.{BreaksFirst, FitsFirst, IsFirst};
 
 use crate::cells::{damaged_slot, read_slot};
 use crate::fault::ValueFault;
@@ -78,6 +78,7 @@ fn read_fields(tier: u8, end: u32, cell: &[u8]) -> Option<Fields>
 }
 
 /// The first slot of a value.
+#[tactic(auto, using(crate::proofs::FirstSlots::first_fits))]
 pub(crate) fn read_first<C: Cells>(
     alloc: Global,
     c: &mut C,
@@ -95,6 +96,7 @@ pub(crate) fn read_first<C: Cells>(
     ensures cell { (cells : Content) → C.seen c.old ≡ Some cells → IfOk result (λ f. f.cell.items ≡ table_cells cells column at.tier at.slot) }
     ensures end { (cells : Content) → C.seen c.old ≡ Some cells → IfOk result (λ f. HasEnd cells column at.tier f.end) }
     ensures first { IfOk result (λ f. IsFirst at.tier f.end f.cell.items f.fields.key f.fields.count f.fields.len f.fields.next) }
+    ensures fits { IfOk result (λ f. FitsFirst at.tier f.end f.fields.len f.fields.next) }
     ensures faults { (cells : Content) → C.seen c.old ≡ Some cells
         → IfErr result (FaultSays (BreaksFirst cells column at.tier at.slot) NoTier) }
 {

@@ -7,9 +7,13 @@ mod firsts;
 mod heads;
 mod parts;
 mod reading;
+mod refs;
 mod slots;
 mod tiers;
+mod values;
 mod writing;
 
 pub use fault::ValueFault;
 pub use pdb_model::Address;
+pub use refs::add_ref;
+pub use values::{count, read_into};

@@ -17,6 +17,9 @@ use crate::tiers::PARTS_TIER;
 use pdb_cells::Cells;
 use std::alloc::Global;
 
+/// How many bytes of a value in parts stand in its head.
+pub(crate) const IN_HEAD: usize = 4044;
+
 /// How many bytes of a value stand in a further part.
 pub(crate) const IN_PART: usize = 4088;
 
@@ -88,6 +91,7 @@ pub(crate) fn read_parts<C: Cells>(
     ensures keeps { C.same c.old c.new }
     ensures counted { CountsFault (is_disk result) (C.fault_count c.old) (C.fault_count c.new) }
     ensures reads { C.read_count c.new ≤ C.read_count c.old + (len + 4087) / 4088 }
+    ensures len { OnOk result (length out.new.items ≡ length out.old.items + len) }
     ensures parts { (cells : Content) → C.seen c.old ≡ Some cells
         → OnOk result ((parts : List ℕ) × (bytes : List ℕ) × AreParts end (table_cells cells column parts_tier) parts bytes
             × (first parts ≡ next) × (length bytes ≡ len) × (out.new.items ≡ out.old.items ++ bytes)) }

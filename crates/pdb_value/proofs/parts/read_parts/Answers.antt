@@ -32,6 +32,12 @@ loop-left-preserved g c = record {
   counted = c.in_ok-part.ensures.counted ∙ c.loop-left.invariant.counted;
   stays = λ cells seen. c.read_part_of.ensures.stays cells (c.loop-left.invariant.stays cells seen);
   reads = let fewer = one_fewer c.loop-left.left c.min-here.result (omega arith) (omega (arith, c.min-here.ensures)) in let once = c.read_part_of.ensures.reads.1 in let so_far = c.loop-left.invariant.reads in omega arith;
+  long =
+      let value : List ℕ = take (part_len c.loop-left.left) (drop 8 c.in_ok-part.part.cell.items) in
+      let n : length value ≡ part_len c.loop-left.left = value_len c.in_ok-part.part.cell.items c.loop-left.left c.in_ok-part.ensures.len in
+      let wrote : c.extend_from_slice.new.self.items ≡ c.loop-left.out.items ++ value = c.in_ok-extend_from_slice.ensures.items ∙ ap (λ x. c.loop-left.out.items ++ x) (value_read c.in_ok-part.part.cell.items c.deref.result.now c.loop-left.left c.min-here.result c.deref.ensures.value (omega (arith, c.min-here.ensures))) in
+      let all : length c.extend_from_slice.new.self.items ≡ length c.loop-left.out.items + length value = ap length wrote ∙ length-append c.loop-left.out.items value in
+      let so_far = c.loop-left.invariant.long in omega (arith, c.min-here.ensures);
   some = λ h. c.in_ok-part.ensures.next.more (omega (arith, c.min-here.ensures));
   within = c.in_ok-part.ensures.next.within;
   none = λ h. c.in_ok-part.ensures.next.last (omega (arith, c.min-here.ensures));

@@ -12,6 +12,7 @@ invariant-loop-left g l = record {
   counted : g.C.Cells.fault_count l.c ≡ g.C.Cells.fault_count l.initial.c;
   stays : (cells : Content) → g.C.Cells.seen l.initial.c ≡ Some cells → g.C.Cells.seen l.c ≡ Some cells;
   reads : g.C.Cells.read_count l.c + (l.left + 4087) / 4088 ≤ g.C.Cells.read_count l.initial.c + (l.initial.left + 4087) / 4088;
+  long : length l.out.items + l.left ≡ length l.initial.out.items + l.initial.left;
   some : 1 ≤ l.left → 1 ≤ l.slot;
   within : l.slot ≤ l.fn.end;
   none : l.left ≡ 0 → l.slot ≡ 0;

@@ -1,0 +1,60 @@
+ghost use Rattle.std.specs.Prelude.{◌≡◌, ◌≢◌, ◌≤◌, ◌<◌, ◌+◌, ℕ, List, IfOk, OnOk, OnErr, IfErr, Some, length};
+ghost use Rattle.sdb_base.specs.Content.{count_down, count_up};
+ghost use Rattle.sdb_io.specs.Faults.{CountsFault};
+ghost use Rattle.pdb_cells.specs.Content.{Content};
+ghost use Rattle.pdb_model.specs.Breaks.{HasEnd};
+ghost use Rattle.pdb_model.specs.Files.{OnlyTable, head_cell};
+ghost use Rattle.pdb_model.specs.Heads.{IsHeadCell};
+ghost use Rattle.pdb_model.specs.Tables.{Held, Table, held, recounted};
+ghost use Rattle.pdb_value.specs.Faults.{Drafts, FaultSays, HasTable, NoCell, NoTier, is_disk};
+ghost use Rattle.pdb_value.specs.Values.{BreaksValue};
+
+use crate::cells::put_slot;
+use crate::fault::ValueFault;
+use crate::firsts::read_first;
+use crate::writing::set_count;
+use pdb_cells::{Cells, Draft};
+use pdb_model::Address;
+use std::alloc::Global;
+
+// the count after one reference more; the last count stays
+fn one_up(count: u64) -> u64
+    requires { 1 ≤ count }
+    ensures count { result ≡ count_up count }
+    ensures some { 1 ≤ result }
+{
+    if count == u64::MAX { count } else { count + 1 }
+}
+
+/// Adds a reference to the value at an address, and answers the new count. The count 2^64 - 1 stays.
+///
+/// `Damaged` names the column's head cell or the slot where it breaks the rules, `Disk` comes only where the count of
+/// faults of the cells rises, and `OutOfMemory` only for want of memory. An `Err` puts nothing.
+pub fn add_ref<C: Cells>(
+    alloc: Global,
+    d: &mut Draft<'_, C>,
+    column: u8,
+    at: Address,
+) -> Result<u64, ValueFault>
+    requires column { column ≤ 1 }
+    requires tier { at.tier ≤ 15 }
+    ensures same_reference { d.new.under.ghost_name ≡ d.old.under.ghost_name }
+    ensures keeps { C.same d.old.under.now d.new.under.now }
+    ensures counted { CountsFault (is_disk result) (C.fault_count d.old.under.now) (C.fault_count d.new.under.now) }
+    ensures only { (cells : Content) → Drafts d.old.puts (C.seen d.old.under.now) cells
+        → OnOk result ((after : Content) × Drafts d.new.puts (C.seen d.new.under.now) after × OnlyTable column at.tier cells after
+            × (head_cell after column ≡ head_cell cells column)) }
+    ensures added { (cells : Content) (t : Table) (h : Held) → Drafts d.old.puts (C.seen d.old.under.now) cells → HasTable cells column at.tier t
+        → held (t.slot at.slot) ≡ Some h → IfOk result (λ n. (n ≡ count_up h.count)
+            × ((after : Content) × Drafts d.new.puts (C.seen d.new.under.now) after × HasTable after column at.tier (recounted t at.slot n))) }
+    ensures left { OnErr result (d.new.puts ≡ d.old.puts) }
+    ensures faults { (cells : Content) → Drafts d.old.puts (C.seen d.old.under.now) cells → IfErr result (FaultSays (BreaksValue cells column at.tier) NoTier) }
+    ensures sound { (cells : Content) (t : Table) (h : Held) → Drafts d.old.puts (C.seen d.old.under.now) cells → IsHeadCell (head_cell cells column)
+        → HasTable cells column at.tier t → held (t.slot at.slot) ≡ Some h → IfErr result (FaultSays NoCell NoTier) }
+{
+    let mut first = read_first(alloc, d, column, at)?;
+    let count = one_up(first.fields.count);
+    set_count(&mut first.cell, count);
+    put_slot(d, column, at.tier, at.slot, &first.cell)?;
+    Ok(count)
+}
