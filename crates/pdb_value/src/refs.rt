@@ -3,17 +3,19 @@ ghost use Rattle.sdb_base.specs.Content.{count_down, count_up};
 ghost use Rattle.sdb_io.specs.Faults.{CountsFault};
 ghost use Rattle.pdb_cells.specs.Content.{Content};
 ghost use Rattle.pdb_model.specs.Breaks.{HasEnd};
-ghost use Rattle.pdb_model.specs.Files.{OnlyTable, head_cell};
+ghost use Rattle.pdb_model.specs.Files.{OnlyTable, head_cell, table_cells};
 ghost use Rattle.pdb_model.specs.Heads.{IsHeadCell};
 ghost use Rattle.pdb_model.specs.Tables.{Held, Table, held, recounted};
 ghost use Rattle.pdb_value.specs.Faults.{Drafts, FaultSays, HasTable, NoCell, NoTier, is_disk};
+ghost use Rattle.pdb_model.specs.Tiers.{slot_size};
 ghost use Rattle.pdb_value.specs.Values.{BreaksValue};
+ghost use Rattle.pdb_value.specs.inner.Steps.{IsRecounted};
 
 use crate::cells::put_slot;
 use crate::fault::ValueFault;
 use crate::firsts::read_first;
 use crate::writing::set_count;
-use pdb_cells::{Cells, Draft};
+use pdb_cells::{Cells, Draft, OutOfMemory};
 use pdb_model::Address;
 use std::alloc::Global;
 
@@ -24,6 +26,29 @@ fn one_up(count: u64) -> u64
     ensures some { 1 ≤ result }
 {
     if count == u64::MAX { count } else { count + 1 }
+}
+
+// puts a value's first slot with another count
+fn put_count<C: Cells>(
+    d: &mut Draft<'_, C>,
+    column: u8,
+    at: Address,
+    mut cell: Vec<u8>,
+    count: u64,
+) -> Result<(), OutOfMemory>
+    requires column { column ≤ 1 }
+    requires tier { at.tier ≤ 15 }
+    requires sized { length cell.items ≡ slot_size at.tier }
+    requires range { 64 ≤ length cell.items }
+    requires some { 1 ≤ count }
+    ensures same_reference { d.new.under.ghost_name ≡ d.old.under.ghost_name }
+    ensures below { d.new.under.now ≡ d.old.under.now }
+    ensures recounted { (cells : Content) → Drafts d.old.puts (C.seen d.old.under.now) cells → cell.items ≡ table_cells cells column at.tier at.slot
+        → OnOk result ((after : Content) × Drafts d.new.puts (C.seen d.new.under.now) after × IsRecounted column at.tier at.slot count cells after) }
+    ensures err { OnErr result (d.new.puts ≡ d.old.puts) }
+{
+    set_count(&mut cell, count);
+    put_slot(d, column, at.tier, at.slot, &cell)
 }
 
 /// Adds a reference to the value at an address, and answers the new count. The count 2^64 - 1 stays.
@@ -52,9 +77,8 @@ pub fn add_ref<C: Cells>(
     ensures sound { (cells : Content) (t : Table) (h : Held) → Drafts d.old.puts (C.seen d.old.under.now) cells → IsHeadCell (head_cell cells column)
         → HasTable cells column at.tier t → held (t.slot at.slot) ≡ Some h → IfErr result (FaultSays NoCell NoTier) }
 {
-    let mut first = read_first(alloc, d, column, at)?;
+    let first = read_first(alloc, d, column, at)?;
     let count = one_up(first.fields.count);
-    set_count(&mut first.cell, count);
-    put_slot(d, column, at.tier, at.slot, &first.cell)?;
+    put_count(d, column, at, first.cell, count)?;
     Ok(count)
 }

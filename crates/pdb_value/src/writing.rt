@@ -93,9 +93,11 @@ pub(crate) fn free_cell(alloc: Global, tier: u8, next: u32) -> Result<Vec<u8>, A
 
 /// Sets the count of a value's first slot.
 #[tactic(auto, unfolding(crate::specs::inner::Fields::counted_bytes))]
-pub(crate) fn set_count(cell: &mut [u8], count: u64)
-    requires { 44 ≤ length cell.old }
-    ensures { (kind len n : ℕ) (rest : List ℕ) → cell.old ≡ counted_bytes kind len n rest → cell.new ≡ counted_bytes kind len count rest }
+pub(crate) fn set_count(cell: &mut Vec<u8>, count: u64)
+    requires { 44 ≤ length cell.old.items }
+    ensures len { length cell.new.items ≡ length cell.old.items }
+    ensures count { (kind len n : ℕ) (rest : List ℕ) → cell.old.items ≡ counted_bytes kind len n rest
+        → cell.new.items ≡ counted_bytes kind len count rest }
 {
     cell[4..12].copy_from_slice(&count.to_le_bytes());
 }
