@@ -35,3 +35,13 @@ free_list_broken cells column tier head free end Q e small is keeps f n said h =
     says_more _ _ _ _ e (λ file cell (d : (file ≡ table_file column tier) × (cell ≡ free) × IsNotFree tier end (table_cells cells column tier free)).
         inr (d.0, (end, has_end cells column tier head free end small is keeps f n said, subst (λ (b : List ℕ). IsNotFree tier end b) (ap (λ k. table_cells cells column tier k) (sym d.1) ∙ ap (λ k. cells k cell) (sym d.0)) d.2)))
     (λ u none. absurd none) h
+
+-- a head cell says one end of a tier
+pub one_end : (cells : Content) (column tier e f : ℕ) → tier < 16 → HasEnd cells column tier e → HasEnd cells column tier f → e ≡ f
+one_end cells column tier e f small (h, said, keeps, is) (k, says, keep, at) =
+    let a = keeps.free tier small in let b = keeps.narrow tier small in let c = keep.free tier small in let d = keep.narrow tier small in
+    let same : h.ends tier ≡ k.ends tier = sym (said_is (head_cell cells column) tier (h.ends tier) (omega arith) b (said.tiers tier small)) ∙ said_is (head_cell cells column) tier (k.ends tier) (omega arith) d (says.tiers tier small) in
+    sym is ∙ (ap (λ (e : Ends). e.end) same ∙ at)
+
+pub end_keeps : (cells : Content) (column tier e : ℕ) → HasEnd cells column tier e → IsHeadCell (head_cell cells column)
+end_keeps cells column tier e (h, said, keeps, is) = (h, said, keeps)

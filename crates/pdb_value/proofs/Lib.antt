@@ -10,3 +10,5 @@ pub mod Lists
 pub mod Held
 pub mod FirstSlots
 pub mod Recounted
+pub mod Loosened
+pub mod LetGo

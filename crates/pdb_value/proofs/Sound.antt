@@ -174,13 +174,25 @@ take_sound slot (s ∷ rest) end is room =
       once = λ i. once_popped (i == s) (slot i) (times i rest) (is.once i);
     })
 
--- a slot between the steps of a change gets a whole value
-pub hold_sound : (t : Table) (s : ℕ) (key : List ℕ) (count : ℕ) (value : List ℕ) → IsTable t → t.slot s ≡ Loose → IsTable (holding t s key count value)
-hold_sound t s key count value is loose =
-    let used = used_by t s is (λ e. loose_inside (sym loose ∙ e)) in
+-- a slot of the table that is no part, isn't free and is no value in parts
+pub record IsUsed (t : Table) (s : ℕ) : Type 0 where
+  pub plain : IsPlain (t.slot s)
+  pub none : times_free (t.slot s) ≡ 0
+  pub some : t.slot s ≡ Outside → ⊥
+
+pub loose_used : (t : Table) (s : ℕ) → t.slot s ≡ Loose → IsUsed t s
+loose_used t s e = record { plain = subst IsPlain (sym e) tt; none = ap times_free e; some = λ o. loose_inside (sym e ∙ o) }
+
+pub whole_used : (t : Table) (s : ℕ) (key : List ℕ) (count : ℕ) (value : List ℕ) → t.slot s ≡ Whole key count value → IsUsed t s
+whole_used t s key count value e = record { plain = subst IsPlain (sym e) tt; none = ap times_free e; some = λ o. whole_inside key count value (sym e ∙ o) }
+
+-- such a slot gets a whole value
+pub hold_sound : (t : Table) (s : ℕ) (key : List ℕ) (count : ℕ) (value : List ℕ) → IsTable t → IsUsed t s → IsTable (holding t s key count value)
+hold_sound t s key count value is has =
+    let used = used_by t s is has.some in
     changed t s (Whole key count value) t.free t.end (record {
       is = is;
-      old_plain = subst IsPlain (sym loose) tt;
+      old_plain = has.plain;
       new_plain = tt;
       inside = whole_inside key count value;
       from_one = used.0;
@@ -188,10 +200,10 @@ hold_sound t s key count value is loose =
       raised = omega arith;
       no_further = λ i far ne. far;
       narrow = is.narrow;
-      once = λ i. once_added i s t.slot (Whole key count value) (times i t.free) (ap times_free loose) (is.once i) refl;
+      once = λ i. once_added i s t.slot (Whole key count value) (times i t.free) has.none (is.once i) refl;
     })
 
--- such a slot is freed
+-- a slot between the steps of a change is freed
 pub free_sound : (t : Table) (s : ℕ) → IsTable t → t.slot s ≡ Loose → IsTable (freed t s)
 free_sound t s is loose =
     let used = used_by t s is (λ e. loose_inside (sym loose ∙ e)) in
@@ -206,21 +218,4 @@ free_sound t s is loose =
       no_further = λ i far ne. far;
       narrow = is.narrow;
       once = λ i. once_pushed i s t.slot (times i t.free) (ap times_free loose) (is.once i);
-    })
-
--- a whole value's slot is let go
-pub loosen_sound : (t : Table) (s : ℕ) → IsTable t → IsPlain (t.slot s) → times_free (t.slot s) ≡ 0 → (t.slot s ≡ Outside → ⊥) → IsTable (record t { slot = with_slot t.slot s Loose })
-loosen_sound t s is plain none some =
-    let used = used_by t s is some in
-    changed t s Loose t.free t.end (record {
-      is = is;
-      old_plain = plain;
-      new_plain = tt;
-      inside = loose_inside;
-      from_one = used.0;
-      to_end = used.1;
-      raised = omega arith;
-      no_further = λ i far ne. far;
-      narrow = is.narrow;
-      once = λ i. once_added i s t.slot Loose (times i t.free) none (is.once i) refl;
     })

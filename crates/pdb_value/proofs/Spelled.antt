@@ -12,8 +12,9 @@ use Rattle.pdb_value.specs.Faults.{HasTable}
 use Rattle.pdb_value.specs.inner.HeadCells.{ends_said, with_ends}
 use Rattle.pdb_value.specs.inner.Steps.{IsFreed, IsTaken}
 use Rattle.pdb_value.proofs.HeadCells.{said_is}
+use Rattle.pdb_value.proofs.Broken.{has_end}
 use Rattle.pdb_value.proofs.Layouts.{one_next}
-use Rattle.pdb_value.proofs.Sound.{elsewhere, first_within, free_sound, here, hold_sound, listed, same_or, table, take_sound, there}
+use Rattle.pdb_value.proofs.Sound.{IsUsed, elsewhere, first_within, free_sound, here, hold_sound, listed, same_or, table, take_sound, there}
 use Rattle.pdb_value.proofs.Written.{ends_written, first_kept, head_kept, last_kept, not_head, others_kept, put_file, put_here, put_index, written_len}
 
 -- ---- what changes in the cells
@@ -198,11 +199,11 @@ put_there column tier s i bytes cells e = ap (λ k. put_cell (table_file column 
 pub put_elsewhere : (column tier s i : ℕ) (bytes : List ℕ) (cells : Content) → (i ≡ s → ⊥) → table_cells (put_cell (table_file column tier) s bytes cells) column tier i ≡ table_cells cells column tier i
 put_elsewhere column tier s i bytes cells ne = put_index (table_file column tier) s (table_file column tier) i bytes cells ne
 
--- a slot between the steps of a change gets a whole value
-pub hold_spelled : (cells : Content) (column tier s : ℕ) (t : Table) (key : List ℕ) (count : ℕ) (value cell : List ℕ) → HasTable cells column tier t → t.slot s ≡ Loose
+-- a slot of the table gets a whole value
+pub hold_spelled : (cells : Content) (column tier s : ℕ) (t : Table) (key : List ℕ) (count : ℕ) (value cell : List ℕ) → HasTable cells column tier t → IsUsed t s
     → IsWhole tier cell key count value → HasTable (put_cell (table_file column tier) s cell cells) column tier (holding t s key count value)
-hold_spelled cells column tier s t key count value cell spells loose whole = record {
-  is = hold_sound t s key count value spells.is loose;
+hold_spelled cells column tier s t key count value cell spells has whole = record {
+  is = hold_sound t s key count value spells.is has;
   ends = ap (ends_at tier) (same_head column tier s cell cells) ∙ spells.ends;
   slots = λ i. slot_put tier s i t.slot (Whole key count value) (after i t.free) cell _ (put_there column tier s i cell cells)
       (λ ne. subst (IsSlot tier (t.slot i) (after i t.free)) (sym (put_elsewhere column tier s i cell cells ne)) (spells.slots i)) whole;
@@ -227,6 +228,8 @@ freed_step cells column tier s head written cell free end small len is keeps f n
     record {
       only = only_on column tier cells mid _ (only_slot column tier s cell cells) (subst (OnlyTable column tier mid) to (only_head column tier mid head e small len (is ∙ sym (same_head column tier s cell cells))));
       head = subst IsHeadCell (sym now) (head_kept head tier e small len keeps within n);
+      ends = (end, has_end cells column tier head free end small is keeps f n said, has_end (put_cell head_file column written mid) column tier (head_cell (put_cell head_file column written mid) column) s end small refl
+          (subst IsHeadCell (sym now) (head_kept head tier e small len keeps within n)) (omega arith) n (ap (ends_at tier) now ∙ ends_written tier head e len small));
       others = λ i ne. slots i ∙ put_elsewhere column tier s i cell cells ne;
       table = λ t spells loose.
           let at = ends_are_read tier head (table_cells cells column tier) t free end (subst (λ h. SpellsTable tier h (table_cells cells column tier) t) (sym is) spells) f n said in

@@ -1,10 +1,10 @@
 -- Values in any cells whatever: what the slots of a column hold, and which cells break the rules there.
-use Rattle.std.specs.Prelude.{◌≡◌, ◌≢◌, ◌⊎◌, ◌≤◌, ℕ, Bool, true, false, List, [], ◌∷◌, Option, Some, None, length, take, drop}
+use Rattle.std.specs.Prelude.{◌≡◌, ◌≢◌, ◌⊎◌, ◌≤◌, ◌==◌, if◌then◌else◌, ℕ, Bool, true, false, List, [], ◌∷◌, Option, Some, None, length, take, drop}
 use Rattle.pdb_cells.specs.Content.{Content}
 use Rattle.pdb_model.specs.Breaks.{HasEnd, IsBrokenHead, IsBrokenSlot}
 use Rattle.pdb_model.specs.Files.{table_cells}
 use Rattle.pdb_model.specs.Slots.{IsHeadOfParts, IsPart, IsWhole}
-use Rattle.pdb_model.specs.Tables.{Held, first}
+use Rattle.pdb_model.specs.Tables.{Held, Table, first, recounted, removed}
 use Rattle.pdb_model.specs.Tiers.{in_head, in_part, parts_tier}
 
 -- further parts lie in these slots, one after the other, up to the end of their tier, and have these bytes
@@ -50,3 +50,7 @@ IsRead cells column tier slot key before after false = (after ≡ before) × ((o
 abbrev pub IsReadOf : Held → List ℕ → List ℕ → List ℕ → Bool → Type 0
 IsReadOf h key before after true = (h.key ≡ key) × (after ≡ h.value)
 IsReadOf h key before after false = (h.key ≢ key) × (after ≡ before)
+
+-- a table after a value lost a reference and has this count: at 0 it is removed
+abbrev pub with_fewer : Table → ℕ → ℕ → Table
+with_fewer t slot count = if count == 0 then removed t slot else recounted t slot count

@@ -4,3 +4,4 @@ pub mod HeadCells
 pub mod Steps
 pub mod Firsts
 pub mod Parts
+pub mod Loose

@@ -8,6 +8,7 @@ mod heads;
 mod parts;
 mod reading;
 mod refs;
+mod removal;
 mod slots;
 mod tiers;
 mod values;

@@ -2,6 +2,7 @@
 use Rattle.std.specs.Prelude.{◌≡◌, ◌≢◌, ℕ, ◌≤◌, List, Some}
 use Rattle.pdb_cells.specs.Content.{Content}
 use Rattle.pdb_cells.specs.Sizes.{head_file}
+use Rattle.pdb_model.specs.Breaks.{HasEnd}
 use Rattle.pdb_model.specs.Files.{OnlyTable, head_cell, table_cells}
 use Rattle.pdb_model.specs.Heads.{IsHeadCell}
 use Rattle.pdb_model.specs.Tables.{Held, Loose, Table, freed, held, next_slot, recounted, taken}
@@ -16,6 +17,7 @@ pub record IsTaken (column tier : ℕ) (before after : Content) (slot : ℕ) : T
 pub record IsFreed (column tier : ℕ) (before after : Content) (slot : ℕ) : Type 0 where
   pub only : OnlyTable column tier before after
   pub head : IsHeadCell (head_cell after column)
+  pub ends : (end : ℕ) × HasEnd before column tier end × HasEnd after column tier end
   pub others : (i : ℕ) → i ≢ slot → table_cells after column tier i ≡ table_cells before column tier i
   pub table : (t : Table) → HasTable before column tier t → t.slot slot ≡ Loose → HasTable after column tier (freed t slot)
 
