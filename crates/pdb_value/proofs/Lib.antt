@@ -12,3 +12,4 @@ pub mod FirstSlots
 pub mod Recounted
 pub mod Loosened
 pub mod LetGo
+pub mod Taken

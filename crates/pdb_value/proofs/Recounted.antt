@@ -5,15 +5,15 @@ use Rattle.std.specs.Int.{w32, to_le_bytes}
 use Rattle.pdb_cells.specs.Content.{Content, put_cell}
 use Rattle.pdb_model.specs.Files.{head_cell, table_cells, table_file}
 use Rattle.pdb_model.specs.Heads.{ends_at}
-use Rattle.pdb_model.specs.Slots.{IsHeadOfParts, IsWhole}
-use Rattle.pdb_model.specs.Tables.{Slot, Whole, Parted, Part, Free, Loose, Outside, Table, Held, IsTable, IsSlot, Lists, SpellsTable, after, bytes_of_part, first, held, part_count, recounted, times, times_free, with_count, with_slot}
-use Rattle.pdb_model.specs.Tiers.{in_head, parts_tier, slot_size}
+use Rattle.pdb_model.specs.Slots.{IsHeadOfParts, IsWhole, padded, whole_bytes}
+use Rattle.pdb_model.specs.Tables.{Slot, Whole, Parted, Part, Free, Loose, Outside, Table, Held, IsTable, IsSlot, Lists, SpellsTable, after, bytes_of_part, first, held, holding, part_count, recounted, times, times_free, with_count, with_slot}
+use Rattle.pdb_model.specs.Tiers.{in_head, parts_tier, slot_size, tier_of}
 use Rattle.pdb_value.specs.Faults.{HasTable}
 use Rattle.pdb_value.specs.inner.Fields.{counted_bytes}
 use Rattle.pdb_value.proofs.Held.{held_head, held_is, held_whole}
 use Rattle.pdb_value.proofs.Layouts.{head_fields, whole_fields}
-use Rattle.pdb_value.proofs.Sound.{elsewhere, same_or, there}
-use Rattle.pdb_value.proofs.Spelled.{put_elsewhere, put_there, same_head}
+use Rattle.pdb_value.proofs.Sound.{elsewhere, same_or, there, whole_used}
+use Rattle.pdb_value.proofs.Spelled.{hold_spelled, put_elsewhere, put_there, same_head}
 
 free_same : (x : Slot) (n : ℕ) → times_free x ≡ times_free (with_count x n)
 free_same (Whole key count value) n = refl
@@ -125,3 +125,20 @@ recount_spelled cells column tier s n t h cell spells holds some small set = rec
           (slot_counted tier s (after i t.free) (t.slot s) h (table_cells cells column tier s) cell n holds (subst (λ k. IsSlot tier (t.slot k) (after i t.free) (table_cells cells column tier k)) e (spells.slots i)) some small set))
       (λ ne. subst (IsSlot tier (t.slot i) (after i t.free)) (sym (put_elsewhere column tier s i cell cells ne)) (spells.slots i));
 }
+
+-- a whole value's slot gets other bytes
+pub replaced_spelled : (cells : Content) (column tier s : ℕ) (t : Table) (h : Held) (key : List ℕ) (count : ℕ) (bytes cell : List ℕ) → tier < 15 → tier ≡ tier_of (length bytes)
+    → HasTable cells column tier t → held (t.slot s) ≡ Some h → key ≡ h.key → count ≡ h.count → cell ≡ padded (slot_size tier) (whole_bytes key count bytes)
+    → HasTable (put_cell (table_file column tier) s cell cells) column tier (holding t s h.key h.count bytes)
+replaced_spelled cells column tier s t h key count bytes cell low lowest spells holds k n wrote =
+    elim (held_is (t.slot s) h holds) [
+      | inl w ↦
+          let whole = held_whole tier s (after s t.free) (t.slot s) (table_cells cells column tier s) h.key h.count h.value w (spells.slots s) in
+          hold_spelled cells column tier s t h.key h.count bytes cell spells (whole_used t s h.key h.count h.value w) (record {
+            spelled = wrote ∙ (ap (λ x. padded (slot_size tier) (whole_bytes x count bytes)) k ∙ ap (λ x. padded (slot_size tier) (whole_bytes h.key x bytes)) n);
+            counted = whole.counted;
+            lowest = lowest;
+            not_parts = low;
+          })
+      | inr p ↦ let high = (held_head tier s (after s t.free) (t.slot s) (table_cells cells column tier s) h.key h.count h.value p.0 p.1 (spells.slots s)).0 in absurd (omega arith)
+    ]

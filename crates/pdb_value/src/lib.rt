@@ -16,5 +16,5 @@ mod writing;
 
 pub use fault::ValueFault;
 pub use pdb_model::Address;
-pub use refs::add_ref;
+pub use refs::{add_ref, drop_ref, replace};
 pub use values::{count, read_into};

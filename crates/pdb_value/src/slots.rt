@@ -65,6 +65,8 @@ pub(crate) fn take_slot<C: Cells>(
         → IfOk result (λ slot. (after : Content) × Drafts d.new.puts (C.seen d.new.under.now) after × IsTaken column tier cells after slot) }
     ensures faults { (cells : Content) → Drafts d.old.puts (C.seen d.old.under.now) cells
         → IfErr result (FaultSays (BreaksFreeList column tier cells) (λ u. (u ≡ tier) × IsFullTier cells column tier)) }
+    ensures sound { (cells : Content) (t : Table) → Drafts d.old.puts (C.seen d.old.under.now) cells → IsHeadCell (head_cell cells column)
+        → HasTable cells column tier t → IfErr result (FaultSays NoCell (λ u. (u ≡ tier) × (room_of t ≡ 0))) }
     ensures left { (cells : Content) → Drafts d.old.puts (C.seen d.old.under.now) cells
         → OnErr result (Drafts d.new.puts (C.seen d.new.under.now) cells) }
 {
