@@ -13,3 +13,5 @@ pub mod Recounted
 pub mod Loosened
 pub mod LetGo
 pub mod Taken
+pub mod Places
+pub mod Placed

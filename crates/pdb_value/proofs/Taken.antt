@@ -6,11 +6,14 @@ use Rattle.pdb_model.specs.Files.{head_cell, table_cells, table_file}
 use Rattle.pdb_model.specs.Heads.{IsHeadCell, ends_at, ends_bytes}
 use Rattle.pdb_model.specs.Slots.{IsFree}
 use Rattle.pdb_model.specs.Tables.{Slot, Table, IsTable, SpellsTable, end_after, first, free_after, next_slot, room_of, slots_taken, taken, taken_many}
-use Rattle.pdb_value.specs.Faults.{FaultSays, HasTable, NoCell, NoTier}
+use Rattle.pdb_model.specs.Tiers.{parts_tier}
+use Rattle.pdb_value.specs.Faults.{BreaksFreeList, FaultSays, HasTable, IsFullTier, NoCell, NoTier}
+use Rattle.pdb_value.specs.inner.Many.{AreTaken}
+use Rattle.pdb_value.specs.inner.Steps.{IsTaken}
 use Rattle.pdb_value.specs.declared.fault.ValueFault.{ValueFault}
 use Rattle.pdb_value.specs.declared.fault.ValueFault.TheVariants.{Damaged, Disk, OutOfMemory, TierFull}
 use Rattle.pdb_value.proofs.Sound.{first_within, listed, here, table}
-use Rattle.pdb_value.proofs.Spelled.{ends_are_read, first_is_free}
+use Rattle.pdb_value.proofs.Spelled.{ends_are_read, first_is_free, only_itself, only_on}
 
 pub unbroken_head : (cells : Content) (column : ℕ) (Q : ℕ → Type 0) (e : ValueFault) → IsHeadCell (head_cell cells column) → FaultSays (IsBrokenHead cells column) NoTier e → FaultSays NoCell Q e
 unbroken_head cells column Q OutOfMemory keeps h = tt
@@ -65,3 +68,52 @@ less_room slot (s ∷ rest) end is = omega arith
 
 pub room_less : (t : Table) → IsTable (taken t) → room_of (taken t) + 1 ≡ room_of t
 room_less t is = less_room t.slot t.free t.end is
+
+omega_room : (a b c n m : ℕ) → a + 1 ≡ b → b + n ≡ c → m ≡ suc n → a + m ≡ c
+omega_room a b c n m less so_far is = omega arith
+
+full_room : (now all n k : ℕ) → now + k ≡ all → k < n → now ≡ 0 → all < n
+full_room now all n k sum less none = omega arith
+
+pub none_taken : (column : ℕ) (cells : Content) → AreTaken column 0 cells cells []
+none_taken column cells = record {
+  only = only_itself column parts_tier cells;
+  head = λ h. absurd (omega arith);
+  kept = λ h. h;
+  table = λ t spells. spells;
+  listed = λ t spells. refl;
+  room = λ t spells. omega arith;
+}
+
+-- one slot more is taken
+pub more_taken : (column n m : ℕ) (before mid after : Content) (slots : List ℕ) (slot : ℕ) → AreTaken column n before mid slots → IsTaken column parts_tier mid after slot → m ≡ suc n
+    → AreTaken column m before after (slots ++ slot ∷ [])
+more_taken column n m before mid after slots slot all one is = record {
+  only = only_on column parts_tier before mid after all.only one.only;
+  head = λ _. one.head;
+  kept = λ _. one.head;
+  table = λ t spells. subst (HasTable after column parts_tier) (sym (ap (λ k. taken_many k t) is ∙ many_then n t)) (one.table (taken_many n t) (all.table t spells)).1;
+  listed = λ t spells.
+      ap (λ s. slots ++ s ∷ []) (one.table (taken_many n t) (all.table t spells)).0 ∙ (ap (λ l. l ++ next_slot (taken_many n t).free (taken_many n t).end ∷ []) (all.listed t spells)
+      ∙ (sym (slots_then n t) ∙ ap (λ k. slots_taken k t) (sym is)));
+  room = λ t spells.
+      let step = one.table (taken_many n t) (all.table t spells) in
+      let less = room_less (taken_many n t) step.1.is in
+      let so_far = all.room t spells in
+      let same : room_of (taken_many m t) ≡ room_of (taken (taken_many n t)) = ap room_of (ap (λ k. taken_many k t) is ∙ many_then n t) in
+      subst (λ r. r + m ≡ room_of t) (sym same) (omega_room (room_of (taken (taken_many n t))) (room_of (taken_many n t)) (room_of t) n m less so_far is);
+}
+
+-- the faults after some slots were taken
+pub then_faults : (P : Content → Type 0) (now : Content) (column : ℕ) (e : ValueFault) → P now → FaultSays (BreaksFreeList column parts_tier now) (λ u. (u ≡ parts_tier) × IsFullTier now column parts_tier) e
+    → FaultSays (λ file cell. (x : Content) × P x × BreaksFreeList column parts_tier x file cell) (λ u. (x : Content) × P x × (u ≡ parts_tier) × IsFullTier x column parts_tier) e
+then_faults P now column OutOfMemory p h = tt
+then_faults P now column Disk p h = tt
+then_faults P now column (Damaged file cell) p h = (now, p, h)
+then_faults P now column (TierFull u) p h = (now, p, h.0, h.1)
+
+pub then_sound : (t now : Table) (n k : ℕ) (e : ValueFault) → room_of now + k ≡ room_of t → k < n → FaultSays NoCell (λ u. (u ≡ parts_tier) × (room_of now ≡ 0)) e → FaultSays NoCell (λ u. (u ≡ parts_tier) × (room_of t < n)) e
+then_sound t now n k OutOfMemory all less h = tt
+then_sound t now n k Disk all less h = tt
+then_sound t now n k (Damaged file cell) all less h = h
+then_sound t now n k (TierFull u) all less h = (h.0, full_room (room_of now) (room_of t) n k all less h.1)

@@ -5,3 +5,4 @@ pub mod Steps
 pub mod Firsts
 pub mod Parts
 pub mod Loose
+pub mod Many

@@ -6,6 +6,7 @@ mod fault;
 mod firsts;
 mod heads;
 mod parts;
+mod place;
 mod reading;
 mod refs;
 mod removal;
