@@ -1,13 +1,16 @@
 -- A value in parts is placed in slots that were taken for it.
-use Rattle.std.proofs.Common.{◌≡◌, ◌≢◌, ◌⊎◌, ◌+◌, ◌-◌, ◌*◌, ◌<◌, ◌≤◌, ◌==◌, Bool, true, false, if◌then◌else◌, ℕ, zero, suc, List, [], ◌∷◌, Option, Some, None, length, take, drop, refl, sym, ap, subst, ◌∙◌, arith, inl, inr}
+use Rattle.std.proofs.Common.{◌≡◌, ◌≢◌, ◌⊎◌, ◌+◌, ◌-◌, ◌*◌, ◌^◌, ◌<◌, ◌≤◌, ◌==◌, Bool, true, false, if◌then◌else◌, ℕ, zero, suc, List, [], ◌∷◌, Option, Some, None, length, take, drop, refl, sym, ap, subst, ◌∙◌, arith, inl, inr}
 use Rattle.std.proofs.lemmas.Bool.Decides.{eqb_tells}
 use Rattle.std.specs.List.{position}
 use Rattle.std.specs.Prelude.{slice_get, slice_index}
-use Rattle.pdb_cells.specs.Content.{Content}
-use Rattle.pdb_model.specs.Files.{head_cell, table_cells}
-use Rattle.pdb_model.specs.Slots.{IsHeadOfParts, IsPart}
+use Rattle.pdb_cells.specs.Content.{Content, put_cell}
+use Rattle.std.proofs.lemmas.Option.{slice_get-get_or}
+use Rattle.pdb_value.specs.inner.Many.{AreWritten}
+use Rattle.pdb_value.proofs.Spelled.{only_on, only_slot, put_elsewhere, put_there, same_head}
+use Rattle.pdb_model.specs.Files.{head_cell, table_cells, table_file}
+use Rattle.pdb_model.specs.Slots.{IsHeadOfParts, IsPart, padded, part_bytes}
 use Rattle.pdb_model.specs.Tables.{Slot, Whole, Parted, Part, Free, Loose, Outside, Table, IsTable, IsSlot, Lists, SpellsTable, after, bytes_of_part, first, holding_parts, part_at, part_count, times, times_free}
-use Rattle.pdb_model.specs.Tiers.{in_head, in_part, parts_tier}
+use Rattle.pdb_model.specs.Tiers.{in_head, in_part, parts_tier, slot_size}
 use Rattle.pdb_value.specs.inner.Loose.{AreLoose}
 use Rattle.pdb_value.proofs.Loosened.{differs}
 use Rattle.pdb_value.proofs.Places.{At, Nowhere, Stands, stands}
@@ -164,10 +167,6 @@ holding_sound t h key count value parts r = record {
   ];
 }
 
--- the cells of the parts are written
-pub record AreWritten (cells : ℕ → List ℕ) (parts bytes : List ℕ) : Type 0 where
-  pub each : (j s : ℕ) → slice_get parts j ≡ Some s → IsPart (cells s) (slice_index parts (j + 1)) (take in_part (drop (in_part * j) bytes))
-
 pub holding_spelled : (head : List ℕ) (cells : ℕ → List ℕ) (t : Table) (h : ℕ) (key : List ℕ) (count : ℕ) (value parts : List ℕ) → SpellsTable parts_tier head cells t → AreReady t h value parts
     → IsHeadOfParts (cells h) key count (length value) (first parts) (take in_head value)
     → ((j s : ℕ) → slice_get parts j ≡ Some s → IsPart (cells s) (slice_index parts (j + 1)) (bytes_of_part value j))
@@ -181,3 +180,30 @@ holding_spelled head cells t h key count value parts spells r top others = recor
     | IsOld ne none x ↦ subst (λ x. IsSlot parts_tier x (after i t.free) (cells i)) (sym x) (spells.slots i)
   ];
 }
+
+some_is : (a b : ℕ) → Some a ≡ Some b → a ≡ b
+some_is a b e = cc
+
+-- one part more is written
+pub written_step : (column i n : ℕ) (slots bytes : List ℕ) (before now : Content) (next : ℕ) (value cell : List ℕ) → i < length slots → AreWritten column slots bytes i before now
+    → cell ≡ padded (slot_size parts_tier) (part_bytes next value) → next ≡ slice_index slots (i + 1) → next < 2 ^ 32 → value ≡ take in_part (drop (in_part * i) bytes) → length value ≤ in_part → n ≡ i + 1
+    → AreWritten column slots bytes n before (put_cell (table_file column parts_tier) (slice_index slots i) cell now)
+written_step column i n slots bytes before now next value cell less all wrote follows small is fits more =
+    let got : slice_get slots i ≡ Some (slice_index slots i) = slice_get-get_or slots i 0 less in
+    let part : IsPart cell next value = record { spelled = wrote; fits = fits; narrow = small } in
+    record {
+      only = only_on column parts_tier before now _ all.only (only_slot column parts_tier (slice_index slots i) cell now);
+      head = same_head column parts_tier (slice_index slots i) cell now ∙ all.head;
+      others = λ x none. put_elsewhere column parts_tier (slice_index slots i) x cell now (λ e. none i (got ∙ ap Some (sym e))) ∙ all.others x none;
+      parts = λ apart j s low get. elim (eqb_tells j i) [
+        | inl h ↦
+            let same : s ≡ slice_index slots i = some_is s (slice_index slots i) (sym get ∙ (ap (slice_get slots) h.1 ∙ got)) in
+            subst (λ (c : List ℕ). IsPart c (slice_index slots (j + 1)) (take in_part (drop (in_part * j) bytes))) (sym (put_there column parts_tier (slice_index slots i) s cell now same))
+            (subst (λ k. IsPart cell (slice_index slots (k + 1)) (take in_part (drop (in_part * k) bytes))) (sym h.1)
+            (subst (λ k. IsPart cell k (take in_part (drop (in_part * i) bytes))) follows (subst (IsPart cell next) is part)))
+        | inr h ↦
+            subst (λ (c : List ℕ). IsPart c (slice_index slots (j + 1)) (take in_part (drop (in_part * j) bytes)))
+            (sym (put_elsewhere column parts_tier (slice_index slots i) s cell now (λ e. h.1 (apart j i s get (got ∙ ap Some (sym e))))))
+            (all.parts apart j s (omega (arith, h.1)) get)
+      ];
+    }
