@@ -1,20 +1,26 @@
 -- A value in parts is placed in slots that were taken for it.
-use Rattle.std.proofs.Common.{◌≡◌, ◌≢◌, ◌⊎◌, ◌+◌, ◌-◌, ◌*◌, ◌^◌, ◌<◌, ◌≤◌, ◌==◌, Bool, true, false, if◌then◌else◌, ℕ, zero, suc, List, [], ◌∷◌, Option, Some, None, length, take, drop, refl, sym, ap, subst, ◌∙◌, arith, inl, inr}
+use Rattle.std.proofs.Common.{◌≡◌, ◌≢◌, ◌⊎◌, ◌+◌, ◌-◌, ◌*◌, ◌/◌, ◌^◌, ◌<◌, ◌≤◌, ◌==◌, Bool, true, false, if◌then◌else◌, ℕ, zero, suc, List, [], ◌∷◌, Option, Some, None, length, take, drop, refl, sym, ap, subst, ◌∙◌, arith, inl, inr, length-drop}
 use Rattle.std.proofs.lemmas.Bool.Decides.{eqb_tells}
 use Rattle.std.specs.List.{position}
 use Rattle.std.specs.Prelude.{slice_get, slice_index}
 use Rattle.pdb_cells.specs.Content.{Content, put_cell}
-use Rattle.std.proofs.lemmas.Option.{slice_get-get_or}
-use Rattle.pdb_value.specs.inner.Many.{AreWritten}
+use Rattle.std.proofs.lemmas.Option.{slice_get-get_or, slice_get_within}
+use Rattle.pdb_value.specs.inner.Many.{AreApart, AreWritten}
+use Rattle.pdb_value.specs.Faults.{HasTable}
+use Rattle.pdb_value.proofs.FirstSlots.{slots_long}
+use Rattle.pdb_value.proofs.Sizes.{parts_long}
+use Rattle.pdb_value.proofs.Taken.{room_less}
+use Rattle.std.proofs.lemmas.List.{drop-drop, length-take}
 use Rattle.pdb_value.proofs.Spelled.{only_on, only_slot, put_elsewhere, put_there, same_head}
 use Rattle.pdb_model.specs.Files.{head_cell, table_cells, table_file}
-use Rattle.pdb_model.specs.Slots.{IsHeadOfParts, IsPart, padded, part_bytes}
-use Rattle.pdb_model.specs.Tables.{Slot, Whole, Parted, Part, Free, Loose, Outside, Table, IsTable, IsSlot, Lists, SpellsTable, after, bytes_of_part, first, holding_parts, part_at, part_count, times, times_free}
-use Rattle.pdb_model.specs.Tiers.{in_head, in_part, parts_tier, slot_size}
+use Rattle.pdb_model.specs.Heads.{ends_at}
+use Rattle.pdb_model.specs.Slots.{IsHeadOfParts, IsPart, head_bytes, padded, part_bytes}
+use Rattle.pdb_model.specs.Tables.{Slot, Whole, Parted, Part, Free, Loose, Outside, Table, IsTable, IsSlot, Lists, SpellsTable, after, bytes_of_part, first, holding, holding_parts, next_slot, part_at, part_count, placed, placed_in, room_of, slots_of, slots_taken, taken, taken_many, times, times_free, with_slot}
+use Rattle.pdb_model.specs.Tiers.{in_head, in_part, parts_tier, slot_size, tier_of}
 use Rattle.pdb_value.specs.inner.Loose.{AreLoose}
 use Rattle.pdb_value.proofs.Loosened.{differs}
 use Rattle.pdb_value.proofs.Places.{At, Nowhere, Stands, stands}
-use Rattle.pdb_value.proofs.Sound.{same_or}
+use Rattle.pdb_value.proofs.Sound.{here, same_or, table, take_sound, there}
 
 -- a slot on a list of loose ones is loose, and another than one that isn't there
 loose_got : (t : Table) (list : List ℕ) (j s : ℕ) → AreLoose t list → slice_get list j ≡ Some s → t.slot s ≡ Loose
@@ -167,17 +173,19 @@ holding_sound t h key count value parts r = record {
   ];
 }
 
-pub holding_spelled : (head : List ℕ) (cells : ℕ → List ℕ) (t : Table) (h : ℕ) (key : List ℕ) (count : ℕ) (value parts : List ℕ) → SpellsTable parts_tier head cells t → AreReady t h value parts
-    → IsHeadOfParts (cells h) key count (length value) (first parts) (take in_head value)
-    → ((j s : ℕ) → slice_get parts j ≡ Some s → IsPart (cells s) (slice_index parts (j + 1)) (bytes_of_part value j))
-    → SpellsTable parts_tier head cells (holding_parts t h key count value parts)
-holding_spelled head cells t h key count value parts spells r top others = record {
+pub holding_spelled : (head head' : List ℕ) (cells cells' : ℕ → List ℕ) (t : Table) (h : ℕ) (key : List ℕ) (count : ℕ) (value parts : List ℕ) → SpellsTable parts_tier head cells t → AreReady t h value parts
+    → ends_at parts_tier head' ≡ ends_at parts_tier head
+    → IsHeadOfParts (cells' h) key count (length value) (first parts) (take in_head value)
+    → ((j s : ℕ) → slice_get parts j ≡ Some s → IsPart (cells' s) (slice_index parts (j + 1)) (bytes_of_part value j))
+    → ((i : ℕ) → (i ≡ h → ⊥) → ((j : ℕ) → slice_get parts j ≡ Some i → ⊥) → cells' i ≡ cells i)
+    → SpellsTable parts_tier head' cells' (holding_parts t h key count value parts)
+holding_spelled head head' cells cells' t h key count value parts spells r ends top others old = record {
   is = holding_sound t h key count value parts r;
-  ends = spells.ends;
+  ends = ends ∙ spells.ends;
   slots = λ i. elim (becomes t h key count value parts i) [
-    | IsTop e x ↦ subst (λ x. IsSlot parts_tier x (after i t.free) (cells i)) (sym x) (refl, subst (λ k. IsHeadOfParts (cells k) key count (length value) (first parts) (take in_head value)) (sym e) top)
-    | IsOne j ne got x ↦ subst (λ x. IsSlot parts_tier x (after i t.free) (cells i)) (sym x) (refl, others j i got)
-    | IsOld ne none x ↦ subst (λ x. IsSlot parts_tier x (after i t.free) (cells i)) (sym x) (spells.slots i)
+    | IsTop e x ↦ subst (λ x. IsSlot parts_tier x (after i t.free) (cells' i)) (sym x) (refl, subst (λ k. IsHeadOfParts (cells' k) key count (length value) (first parts) (take in_head value)) (sym e) top)
+    | IsOne j ne got x ↦ subst (λ x. IsSlot parts_tier x (after i t.free) (cells' i)) (sym x) (refl, others j i got)
+    | IsOld ne none x ↦ subst (λ x. IsSlot parts_tier x (after i t.free) (cells' i)) (sym x) (subst (IsSlot parts_tier (t.slot i) (after i t.free)) (sym (old i ne none)) (spells.slots i))
   ];
 }
 
@@ -207,3 +215,113 @@ written_step column i n slots bytes before now next value cell less all wrote fo
             (all.parts apart j s (omega (arith, h.1)) get)
       ];
     }
+
+-- ---- the slots that are taken
+
+loose_then : (slot : ℕ → Slot) (n s : ℕ) → slot s ≡ Loose → with_slot slot n Loose s ≡ Loose
+loose_then slot n s e = same_or s n (λ b. (if b then Loose else slot s) ≡ Loose) (λ _. refl) (λ _. e)
+
+loose_many : (n : ℕ) (t : Table) (s : ℕ) → t.slot s ≡ Loose → (taken_many n t).slot s ≡ Loose
+loose_many zero t s e = e
+loose_many (suc n) t s e = loose_many n (taken t) s (loose_then t.slot (next_slot t.free t.end) s e)
+
+not_next : (slot : ℕ → Slot) (free : List ℕ) (end s : ℕ) → IsTable (table slot free end) → slot s ≡ Loose → next_slot free end ≡ s → ⊥
+not_next slot [] end s is e q = loose_no_outside (sym e ∙ (ap slot (sym q) ∙ is.above (end + 1) (omega arith)))
+not_next slot (r ∷ rest) end s is e q =
+    let on = here r rest in
+    let once = is.once r in
+    let none : times_free (slot r) ≡ 0 = ap (λ k. times_free (slot k)) q ∙ ap times_free e in omega arith
+
+still_table : (slot : ℕ → Slot) (free : List ℕ) (end : ℕ) → IsTable (table slot free end) → 1 ≤ room_of (table slot free end) → IsTable (taken (table slot free end))
+still_table slot [] end is room = take_sound slot [] end is (λ _. omega arith)
+still_table slot (s ∷ rest) end is room = take_sound slot (s ∷ rest) end is (λ e. cc)
+
+apart_many : (n : ℕ) (t : Table) (s : ℕ) → IsTable t → n ≤ room_of t → t.slot s ≡ Loose → times s (slots_taken n t) ≡ 0
+apart_many zero t s is room e = refl
+apart_many (suc n) t s is room e =
+    let more = still_table t.slot t.free t.end is (omega arith) in
+    let less = room_less t more in
+    let tail = apart_many n (taken t) s more (omega arith) (loose_then t.slot (next_slot t.free t.end) s e) in
+    same_or s (next_slot t.free t.end) (λ b. (if b then 1 else 0) + times s (slots_taken n (taken t)) ≡ 0) (λ q. absurd (not_next t.slot t.free t.end s is e (sym q))) (λ _. omega arith)
+
+pub many_loose : (n : ℕ) (t : Table) → IsTable t → n ≤ room_of t → AreLoose (taken_many n t) (slots_taken n t)
+many_loose zero t is room = tt
+many_loose (suc n) t is room =
+    let more = still_table t.slot t.free t.end is (omega arith) in
+    let less = room_less t more in
+    let here_is = there t.slot (next_slot t.free t.end) Loose in
+    (loose_many n (taken t) (next_slot t.free t.end) here_is, apart_many n (taken t) (next_slot t.free t.end) more (omega arith) here_is, many_loose n (taken t) more (omega arith))
+
+pub many_len : (n : ℕ) (t : Table) → length (slots_taken n t) ≡ n
+many_len zero t = refl
+many_len (suc n) t = ap suc (many_len n (taken t))
+
+pub first_taken : (n : ℕ) (t : Table) (slots : List ℕ) → 1 ≤ n → slots ≡ slots_taken n t → slice_index slots 0 ≡ next_slot t.free t.end
+first_taken zero t slots some e = absurd (omega arith)
+first_taken (suc n) t slots some e = ap (λ l. slice_index l 0) e
+
+cons_form : (xs : List ℕ) → 1 ≤ length xs → xs ≡ slice_index xs 0 ∷ drop 1 xs
+cons_form [] some = absurd (omega arith)
+cons_form (x ∷ xs) some = refl
+
+second : (xs : List ℕ) → slice_index xs 1 ≡ first (drop 1 xs)
+second [] = refl
+second (x ∷ []) = refl
+second (x ∷ (y ∷ ys)) = refl
+
+-- ---- the table after a value is placed
+
+pub one_slot : (len : ℕ) → (tier_of len ≡ parts_tier → ⊥) → slots_of len ≡ 1
+one_slot len ne = same_or (tier_of len) parts_tier (λ b. (if b then 1 + part_count len else 1) ≡ 1) (λ e. absurd (ne e)) (λ _. refl)
+
+pub placed_whole : (t : Table) (key : List ℕ) (count : ℕ) (value : List ℕ) → (tier_of (length value) ≡ parts_tier → ⊥) → placed t key count value ≡ holding (taken t) (next_slot t.free t.end) key count value
+placed_whole t key count value ne =
+    ap (λ n. placed_in (taken_many n t) key count value (slots_taken n t)) (one_slot (length value) ne)
+    ∙ same_or (tier_of (length value)) parts_tier
+        (λ b. (if b then holding_parts (taken t) (next_slot t.free t.end) key count value [] else holding (taken t) (next_slot t.free t.end) key count value) ≡ holding (taken t) (next_slot t.free t.end) key count value)
+        (λ e. absurd (ne e)) (λ _. refl)
+
+placed_list : (t : Table) (key : List ℕ) (count : ℕ) (value : List ℕ) (h : ℕ) (parts : List ℕ) → tier_of (length value) ≡ parts_tier → placed_in t key count value (h ∷ parts) ≡ holding_parts t h key count value parts
+placed_list t key count value h parts e =
+    same_or (tier_of (length value)) parts_tier (λ b. (if b then holding_parts t h key count value parts else holding t h key count value) ≡ holding_parts t h key count value parts) (λ _. refl) (λ ne. absurd (ne e))
+
+pub placed_parts : (t : Table) (key : List ℕ) (count : ℕ) (value : List ℕ) (n : ℕ) (slots : List ℕ) → tier_of (length value) ≡ parts_tier → n ≡ slots_of (length value) → slots ≡ slots_taken n t → 1 ≤ length slots
+    → placed t key count value ≡ holding_parts (taken_many n t) (slice_index slots 0) key count value (drop 1 slots)
+placed_parts t key count value n slots e is all some =
+    ap (λ n. placed_in (taken_many n t) key count value (slots_taken n t)) (sym is) ∙ (ap (placed_in (taken_many n t) key count value) (sym all ∙ cons_form slots some)
+    ∙ placed_list (taken_many n t) key count value (slice_index slots 0) (drop 1 slots) e)
+
+pub parts_placed : (column n : ℕ) (t : Table) (mid then : Content) (slots further others value key cell : List ℕ) (count next : ℕ) → tier_of (length value) ≡ parts_tier → length value ≤ 8388608 → n ≡ slots_of (length value)
+    → IsTable t → n ≤ room_of t → HasTable mid column parts_tier (taken_many n t) → slots ≡ slots_taken n t → further ≡ drop 1 slots → others ≡ drop in_head value → next ≡ slice_index slots 1 → next < 2 ^ 32
+    → AreWritten column further others (length further) mid then → cell ≡ head_bytes key count (length value) next (take in_head value) → length key ≡ 32 → 1 ≤ count → count < 2 ^ 64
+    → HasTable (put_cell (table_file column parts_tier) (slice_index slots 0) cell then) column parts_tier (placed t key count value)
+parts_placed column n t mid then slots further others value key cell count next e most is tab room spells all rest behind follows small wrote spelled k some narrow =
+    let long = parts_long (length value) e in
+    let many : length slots ≡ n = ap length all ∙ many_len n t in
+    let counted : n ≡ 1 + (length value - 4044 + 4087) / 4088 = is ∙ slots_long parts_tier (length value) refl (sym e) in
+    let cons = cons_form slots (omega arith) in
+    let loose : AreLoose (taken_many n t) (slice_index slots 0 ∷ drop 1 slots) = subst (AreLoose (taken_many n t)) (sym all ∙ cons) (many_loose n t tab room) in
+    let h : ℕ = slice_index slots 0 in
+    let apart : AreApart further = λ i j s a b. one_place (taken_many n t) (drop 1 slots) i j s loose.2 (ap (λ l. slice_get l i) (sym rest) ∙ a) (ap (λ l. slice_get l j) (sym rest) ∙ b) in
+    let ready : AreReady (taken_many n t) h value (drop 1 slots) = record { is = spells.is; loose = loose; count_is = length-drop 1 slots ∙ omega arith } in
+    subst (HasTable (put_cell (table_file column parts_tier) h cell then) column parts_tier) (sym (placed_parts t key count value n slots e is all (omega arith)))
+    (holding_spelled (head_cell mid column) (head_cell (put_cell (table_file column parts_tier) h cell then) column) (table_cells mid column parts_tier)
+        (table_cells (put_cell (table_file column parts_tier) h cell then) column parts_tier) (taken_many n t) h key count value (drop 1 slots) spells ready
+        (ap (ends_at parts_tier) (same_head column parts_tier h cell then ∙ wrote.head))
+        (subst (λ (c : List ℕ). IsHeadOfParts c key count (length value) (first (drop 1 slots)) (take in_head value)) (sym (put_there column parts_tier h h cell then refl)) (record {
+          spelled = spelled ∙ ap (λ m. head_bytes key count (length value) m (take in_head value)) (follows ∙ second slots);
+          counted = record { key_len = k; some = some; narrow = narrow };
+          full = let m = length-take in_head value in omega arith;
+          long = e;
+          not_too_long = most;
+          narrow = subst (λ m. m < 2 ^ 32) (follows ∙ second slots) small;
+        }))
+        (λ j s got.
+            let at : slice_get further j ≡ Some s = ap (λ l. slice_get l j) rest ∙ got in
+            let ne : s ≡ h → ⊥ = other_got (drop 1 slots) h j s loose.1 got in
+            let part = wrote.parts apart j s (slice_get_within further j s at) at in
+            subst (λ (c : List ℕ). IsPart c (slice_index (drop 1 slots) (j + 1)) (bytes_of_part value j)) (sym (put_elsewhere column parts_tier h s cell then ne))
+            (subst (λ (b : List ℕ). IsPart (table_cells then column parts_tier s) (slice_index (drop 1 slots) (j + 1)) b)
+                (ap (λ o. take in_part (drop (in_part * j) o)) behind ∙ ap (take in_part) (drop-drop (in_part * j) in_head value))
+            (subst (λ l. IsPart (table_cells then column parts_tier s) (slice_index l (j + 1)) (take in_part (drop (in_part * j) others))) rest part)))
+        (λ i ne none. put_elsewhere column parts_tier h i cell then ne ∙ wrote.others i (λ j at. none j (ap (λ l. slice_get l j) (sym rest) ∙ at))))

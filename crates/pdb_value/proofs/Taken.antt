@@ -117,3 +117,10 @@ then_sound t now n k OutOfMemory all less h = tt
 then_sound t now n k Disk all less h = tt
 then_sound t now n k (Damaged file cell) all less h = h
 then_sound t now n k (TierFull u) all less h = (h.0, full_room (room_of now) (room_of t) n k all less h.1)
+
+pub tier_faults : (P : Content → Type 0) (column k m : ℕ) (e : ValueFault) → k ≡ m → FaultSays (λ file cell. (x : Content) × P x × BreaksFreeList column k x file cell) (λ u. (x : Content) × P x × (u ≡ k) × IsFullTier x column k) e
+    → FaultSays (λ file cell. (x : Content) × P x × BreaksFreeList column m x file cell) (λ u. (x : Content) × P x × (u ≡ m) × IsFullTier x column m) e
+tier_faults P column k m e is h = subst (λ k. FaultSays (λ file cell. (x : Content) × P x × BreaksFreeList column k x file cell) (λ u. (x : Content) × P x × (u ≡ k) × IsFullTier x column k) e) is h
+
+pub tier_sound : (room slots more k m : ℕ) (e : ValueFault) → k ≡ m → slots ≡ more → FaultSays NoCell (λ u. (u ≡ k) × (room < slots)) e → FaultSays NoCell (λ u. (u ≡ m) × (room < more)) e
+tier_sound room slots more k m e is all h = subst (λ n. FaultSays NoCell (λ u. (u ≡ m) × (room < n)) e) all (subst (λ k. FaultSays NoCell (λ u. (u ≡ k) × (room < slots)) e) is h)

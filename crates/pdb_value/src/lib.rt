@@ -6,7 +6,7 @@ mod fault;
 mod firsts;
 mod heads;
 mod parts;
-mod place;
+mod placing;
 mod reading;
 mod refs;
 mod removal;
@@ -17,5 +17,6 @@ mod writing;
 
 pub use fault::ValueFault;
 pub use pdb_model::Address;
+pub use placing::place;
 pub use refs::{add_ref, drop_ref, replace};
 pub use values::{count, read_into};

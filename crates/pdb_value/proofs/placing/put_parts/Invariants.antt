@@ -3,7 +3,7 @@ use Rattle.pdb_cells.specs.Content.{Content}
 use Rattle.pdb_model.specs.Tiers.{in_part}
 use Rattle.pdb_value.specs.Faults.{Drafts}
 use Rattle.pdb_value.specs.inner.Many.{AreWritten}
-use Rattle.pdb_value.proofs.place.put_parts.Given as goal
+use Rattle.pdb_value.proofs.placing.put_parts.Given as goal
 
 abbrev pub invariant-loop-i : goal.invariant-loop-i
 invariant-loop-i g l = record {

@@ -6,7 +6,7 @@ use Rattle.pdb_model.specs.Files.{table_file}
 use Rattle.pdb_model.specs.Tiers.{in_part, parts_tier}
 use Rattle.pdb_value.proofs.Chains.{part_before}
 use Rattle.pdb_value.proofs.Placed.{written_step}
-use Rattle.pdb_value.proofs.place.put_parts.Goals as goal
+use Rattle.pdb_value.proofs.placing.put_parts.Goals as goal
 
 pub loop-i-preserved : goal.loop-i-preserved
 loop-i-preserved g c =

@@ -2,7 +2,7 @@ use Rattle.std.proofs.Common.{◌≡◌, ◌<◌, ◌≤◌, ◌+◌, ◌-◌, �
 use Rattle.pdb_cells.specs.Content.{Content}
 use Rattle.pdb_value.specs.Faults.{Drafts}
 use Rattle.pdb_value.specs.inner.Many.{AreTaken}
-use Rattle.pdb_value.proofs.place.take_slots.Given as goal
+use Rattle.pdb_value.proofs.placing.take_slots.Given as goal
 
 abbrev pub invariant-loop-alloc : goal.invariant-loop-alloc
 invariant-loop-alloc g l = record {

@@ -150,16 +150,14 @@ fn place_parts<C: Cells>(
         → HasTable cells column parts_tier t → IfErr result (FaultSays NoCell (λ u. (u ≡ parts_tier) × (room_of t < slots_of (length bytes.now)))) }
 {
     let (front, others) = bytes.split_at(IN_HEAD);
-    let parts = others.len().div_ceil(IN_PART);
+    let parts = (others.len() + (IN_PART - 1)) / IN_PART;
     let slots = take_slots(alloc, d, column, 1 + parts)?;
-    let [head, further @ ..] = slots.as_slice() else {
-        unreachable!()
-    };
-    put_parts(alloc, d, column, further, others)?;
+    let head = slots[0];
+    put_parts(alloc, d, column, &slots[1..], others)?;
     let next = slot_after(&slots, 0);
     let cell = head_of_parts_cell(alloc, key, count, bytes.len() as u32, next, front)?;
-    put_slot(d, column, PARTS_TIER, *head, &cell)?;
-    Ok(*head)
+    put_slot(d, column, PARTS_TIER, head, &cell)?;
+    Ok(head)
 }
 
 /// Places a value with its key and count, which is at least 1, and answers where. It has at most 8,388,608 bytes. Its
