@@ -1,5 +1,5 @@
 -- A value in parts is placed in slots that were taken for it.
-use Rattle.std.proofs.Common.{◌≡◌, ◌≢◌, ◌⊎◌, ◌+◌, ◌-◌, ◌*◌, ◌/◌, ◌^◌, ◌<◌, ◌≤◌, ◌==◌, Bool, true, false, if◌then◌else◌, ℕ, zero, suc, List, [], ◌∷◌, Option, Some, None, length, take, drop, refl, sym, ap, subst, ◌∙◌, arith, inl, inr, length-drop}
+use Rattle.std.proofs.Common.{◌≡◌, ◌≢◌, ◌⊎◌, ◌+◌, ◌-◌, ◌*◌, ◌/◌, ◌^◌, ◌<◌, ◌≤◌, ◌==◌, Bool, true, false, if◌then◌else◌, ℕ, zero, suc, List, [], ◌∷◌, Option, Some, None, length, take, drop, get_or, refl, sym, ap, subst, ◌∙◌, arith, inl, inr, length-drop}
 use Rattle.std.proofs.lemmas.Bool.Decides.{eqb_tells}
 use Rattle.std.specs.List.{position}
 use Rattle.std.specs.Prelude.{slice_get, slice_index}
@@ -291,11 +291,11 @@ placed_parts t key count value n slots e is all some =
     ap (λ n. placed_in (taken_many n t) key count value (slots_taken n t)) (sym is) ∙ (ap (placed_in (taken_many n t) key count value) (sym all ∙ cons_form slots some)
     ∙ placed_list (taken_many n t) key count value (slice_index slots 0) (drop 1 slots) e)
 
-pub parts_placed : (column n : ℕ) (t : Table) (mid then : Content) (slots further others value key cell : List ℕ) (count next : ℕ) → tier_of (length value) ≡ parts_tier → length value ≤ 8388608 → n ≡ slots_of (length value)
+pub parts_placed : (column n : ℕ) (t : Table) (mid last : Content) (slots further others value key cell : List ℕ) (count next : ℕ) → tier_of (length value) ≡ parts_tier → length value ≤ 8388608 → n ≡ slots_of (length value)
     → IsTable t → n ≤ room_of t → HasTable mid column parts_tier (taken_many n t) → slots ≡ slots_taken n t → further ≡ drop 1 slots → others ≡ drop in_head value → next ≡ slice_index slots 1 → next < 2 ^ 32
-    → AreWritten column further others (length further) mid then → cell ≡ head_bytes key count (length value) next (take in_head value) → length key ≡ 32 → 1 ≤ count → count < 2 ^ 64
-    → HasTable (put_cell (table_file column parts_tier) (slice_index slots 0) cell then) column parts_tier (placed t key count value)
-parts_placed column n t mid then slots further others value key cell count next e most is tab room spells all rest behind follows small wrote spelled k some narrow =
+    → AreWritten column further others (length further) mid last → cell ≡ head_bytes key count (length value) next (take in_head value) → length key ≡ 32 → 1 ≤ count → count < 2 ^ 64
+    → HasTable (put_cell (table_file column parts_tier) (slice_index slots 0) cell last) column parts_tier (placed t key count value)
+parts_placed column n t mid last slots further others value key cell count next e most is tab room spells all rest behind follows small wrote spelled k some narrow =
     let long = parts_long (length value) e in
     let many : length slots ≡ n = ap length all ∙ many_len n t in
     let counted : n ≡ 1 + (length value - 4044 + 4087) / 4088 = is ∙ slots_long parts_tier (length value) refl (sym e) in
@@ -304,11 +304,11 @@ parts_placed column n t mid then slots further others value key cell count next 
     let h : ℕ = slice_index slots 0 in
     let apart : AreApart further = λ i j s a b. one_place (taken_many n t) (drop 1 slots) i j s loose.2 (ap (λ l. slice_get l i) (sym rest) ∙ a) (ap (λ l. slice_get l j) (sym rest) ∙ b) in
     let ready : AreReady (taken_many n t) h value (drop 1 slots) = record { is = spells.is; loose = loose; count_is = length-drop 1 slots ∙ omega arith } in
-    subst (HasTable (put_cell (table_file column parts_tier) h cell then) column parts_tier) (sym (placed_parts t key count value n slots e is all (omega arith)))
-    (holding_spelled (head_cell mid column) (head_cell (put_cell (table_file column parts_tier) h cell then) column) (table_cells mid column parts_tier)
-        (table_cells (put_cell (table_file column parts_tier) h cell then) column parts_tier) (taken_many n t) h key count value (drop 1 slots) spells ready
-        (ap (ends_at parts_tier) (same_head column parts_tier h cell then ∙ wrote.head))
-        (subst (λ (c : List ℕ). IsHeadOfParts c key count (length value) (first (drop 1 slots)) (take in_head value)) (sym (put_there column parts_tier h h cell then refl)) (record {
+    subst (HasTable (put_cell (table_file column parts_tier) h cell last) column parts_tier) (sym (placed_parts t key count value n slots e is all (omega arith)))
+    (holding_spelled (head_cell mid column) (head_cell (put_cell (table_file column parts_tier) h cell last) column) (table_cells mid column parts_tier)
+        (table_cells (put_cell (table_file column parts_tier) h cell last) column parts_tier) (taken_many n t) h key count value (drop 1 slots) spells ready
+        (ap (ends_at parts_tier) (same_head column parts_tier h cell last ∙ wrote.head))
+        (subst (λ (c : List ℕ). IsHeadOfParts c key count (length value) (first (drop 1 slots)) (take in_head value)) (sym (put_there column parts_tier h h cell last refl)) (record {
           spelled = spelled ∙ ap (λ m. head_bytes key count (length value) m (take in_head value)) (follows ∙ second slots);
           counted = record { key_len = k; some = some; narrow = narrow };
           full = let m = length-take in_head value in omega arith;
@@ -320,8 +320,12 @@ parts_placed column n t mid then slots further others value key cell count next 
             let at : slice_get further j ≡ Some s = ap (λ l. slice_get l j) rest ∙ got in
             let ne : s ≡ h → ⊥ = other_got (drop 1 slots) h j s loose.1 got in
             let part = wrote.parts apart j s (slice_get_within further j s at) at in
-            subst (λ (c : List ℕ). IsPart c (slice_index (drop 1 slots) (j + 1)) (bytes_of_part value j)) (sym (put_elsewhere column parts_tier h s cell then ne))
-            (subst (λ (b : List ℕ). IsPart (table_cells then column parts_tier s) (slice_index (drop 1 slots) (j + 1)) b)
+            subst (λ (c : List ℕ). IsPart c (slice_index (drop 1 slots) (j + 1)) (bytes_of_part value j)) (sym (put_elsewhere column parts_tier h s cell last ne))
+            (subst (λ (b : List ℕ). IsPart (table_cells last column parts_tier s) (slice_index (drop 1 slots) (j + 1)) b)
                 (ap (λ o. take in_part (drop (in_part * j) o)) behind ∙ ap (take in_part) (drop-drop (in_part * j) in_head value))
-            (subst (λ l. IsPart (table_cells then column parts_tier s) (slice_index l (j + 1)) (take in_part (drop (in_part * j) others))) rest part)))
-        (λ i ne none. put_elsewhere column parts_tier h i cell then ne ∙ wrote.others i (λ j at. none j (ap (λ l. slice_get l j) (sym rest) ∙ at))))
+            (subst (λ l. IsPart (table_cells last column parts_tier s) (slice_index l (j + 1)) (take in_part (drop (in_part * j) others))) rest part)))
+        (λ i ne none. put_elsewhere column parts_tier h i cell last ne ∙ wrote.others i (λ j at. none j (ap (λ l. slice_get l j) (sym rest) ∙ at))))
+
+pub head_of : (xs : List ℕ) (x : ℕ) → 1 ≤ length xs → x ≡ get_or xs 0 x → x ≡ slice_index xs 0
+head_of [] x some e = absurd (omega arith)
+head_of (y ∷ ys) x some e = e
