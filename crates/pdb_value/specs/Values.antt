@@ -54,3 +54,7 @@ IsReadOf h key before after false = (h.key ≢ key) × (after ≡ before)
 -- a table after a value lost a reference and has this count: at 0 it is removed
 abbrev pub with_fewer : Table → ℕ → ℕ → Table
 with_fewer t slot count = if count == 0 then removed t slot else recounted t slot count
+
+-- a slot is at most the end of its tier, where the column's head cell keeps the rules
+abbrev pub IsUpToEnd : Content → ℕ → ℕ → ℕ → Type 0
+IsUpToEnd cells column tier slot = (end : ℕ) → HasEnd cells column tier end → slot ≤ end

@@ -16,7 +16,11 @@ mod values;
 mod writing;
 
 pub use fault::ValueFault;
+pub use pdb_cells::OutOfMemory;
 pub use pdb_model::Address;
 pub use placing::place;
 pub use refs::{add_ref, drop_ref, replace};
 pub use values::{count, read_into};
+
+#[cfg(test)]
+mod tests;

@@ -8,7 +8,7 @@ ghost use Rattle.pdb_model.specs.Heads.{IsHeadCell};
 ghost use Rattle.pdb_model.specs.Tables.{Held, Table, held, holding, recounted};
 ghost use Rattle.pdb_value.specs.Faults.{Drafts, FaultSays, HasTable, NoCell, NoTier, is_disk};
 ghost use Rattle.pdb_model.specs.Tiers.{parts_tier, slot_size, tier_of};
-ghost use Rattle.pdb_value.specs.Values.{BreaksValue, with_fewer};
+ghost use Rattle.pdb_value.specs.Values.{BreaksValue, IsUpToEnd, with_fewer};
 ghost use Rattle.pdb_value.specs.inner.Steps.{IsRecounted};
 
 use crate::cells::put_slot;
@@ -95,8 +95,8 @@ fn one_down(count: u64) -> u64
 }
 
 /// Drops a reference to the value at an address, and answers the new count. At 0 its slots were freed, from the head to
-/// the last part, each as the first free one. The count 2^64 - 1 stays. The slot is at most the end of its tier where
-/// the column's head cell keeps the rules.
+/// the last part, each as the first free one. The count 2^64 - 1 stays. It is for a slot that is
+/// at most the end of its tier where the column's head cell keeps the rules.
 ///
 /// `Damaged` names the column's head cell, or the slot or further part that breaks the rules, `Disk` comes only where
 /// the count of faults of the cells rises, and `OutOfMemory` only for want of memory. After an `Err` the draft may have
@@ -109,17 +109,16 @@ pub fn drop_ref<C: Cells>(
 ) -> Result<u64, ValueFault>
     requires column { column ≤ 1 }
     requires tier { at.tier ≤ 15 }
-    requires slot { (cells : Content) (end : ℕ) → Drafts d.old.puts (C.seen d.old.under.now) cells → HasEnd cells column at.tier end → at.slot ≤ end }
     ensures same_reference { d.new.under.ghost_name ≡ d.old.under.ghost_name }
     ensures keeps { C.same d.old.under.now d.new.under.now }
     ensures counted { CountsFault (is_disk result) (C.fault_count d.old.under.now) (C.fault_count d.new.under.now) }
-    ensures only { (cells : Content) → Drafts d.old.puts (C.seen d.old.under.now) cells
+    ensures only { (cells : Content) → Drafts d.old.puts (C.seen d.old.under.now) cells → IsUpToEnd cells column at.tier at.slot
         → OnOk result ((after : Content) × Drafts d.new.puts (C.seen d.new.under.now) after × OnlyTable column at.tier cells after
             × IsHeadCell (head_cell after column)) }
     ensures dropped { (cells : Content) (t : Table) (h : Held) → Drafts d.old.puts (C.seen d.old.under.now) cells → HasTable cells column at.tier t
         → held (t.slot at.slot) ≡ Some h → IfOk result (λ n. (n ≡ count_down h.count)
             × ((after : Content) × Drafts d.new.puts (C.seen d.new.under.now) after × HasTable after column at.tier (with_fewer t at.slot n))) }
-    ensures faults { (cells : Content) → Drafts d.old.puts (C.seen d.old.under.now) cells
+    ensures faults { (cells : Content) → Drafts d.old.puts (C.seen d.old.under.now) cells → IsUpToEnd cells column at.tier at.slot
         → IfErr result (FaultSays (λ file cell. (after : Content) × Drafts d.new.puts (C.seen d.new.under.now) after
             × BreaksValue after column at.tier file cell) NoTier) }
     ensures sound { (cells : Content) (t : Table) (h : Held) → Drafts d.old.puts (C.seen d.old.under.now) cells → IsHeadCell (head_cell cells column)

@@ -13,10 +13,10 @@ returns-in_err-first-clause-sound g c cells t h drafts keeps spells holds =
     rw (p.1, p.2) (first_sound cells c.args.column c.args.at.tier c.args.at.slot t h _ (omega arith) keeps spells holds (c.in_err-first.ensures.faults cells drafts))
 
 pub returns-in_err-free_value-clause-faults : goal.returns-in_err-free_value-clause-faults
-returns-in_err-free_value-clause-faults g c cells drafts =
+returns-in_err-free_value-clause-faults g c cells drafts within =
     let has = c.in_ok-first.ensures.end cells drafts in
     let p = err_from_is_err_and c.from_residual-in_err-free_value.result c.from_residual-in_err-free_value.ensures.1 in
-    rw (p.1, p.2) (c.in_err-free_value.ensures.faults cells (c.read_first.ensures.stays cells drafts) has (c.requires.slot cells c.in_ok-first.first.end drafts has))
+    rw (p.1, p.2) (c.in_err-free_value.ensures.faults cells (c.read_first.ensures.stays cells drafts) has (within c.in_ok-first.first.end has))
 
 pub returns-in_err-free_value-clause-sound : goal.returns-in_err-free_value-clause-sound
 returns-in_err-free_value-clause-sound g c cells t h drafts keeps spells holds =
@@ -25,9 +25,9 @@ returns-in_err-free_value-clause-sound g c cells t h drafts keeps spells holds =
     rw (p.1, p.2) (c.in_err-free_value.ensures.sound cells t h (c.read_first.ensures.stays cells drafts) (c.in_ok-first.ensures.end cells drafts) spells holds same.len_is same.next_is)
 
 pub returns-then-fields-eq1-clause-only : goal.returns-then-fields-eq1-clause-only
-returns-then-fields-eq1-clause-only g c cells drafts =
+returns-then-fields-eq1-clause-only g c cells drafts within =
     let has = c.in_ok-first.ensures.end cells drafts in
-    c.in_ok-free_value.ensures.only cells (c.read_first.ensures.stays cells drafts) has (c.requires.slot cells c.in_ok-first.first.end drafts has)
+    c.in_ok-free_value.ensures.only cells (c.read_first.ensures.stays cells drafts) has (within c.in_ok-first.first.end has)
 
 pub returns-then-fields-eq1-clause-dropped : goal.returns-then-fields-eq1-clause-dropped
 returns-then-fields-eq1-clause-dropped g c cells t h drafts spells holds =
