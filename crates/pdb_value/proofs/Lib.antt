@@ -1,0 +1,17 @@
+pub mod Layouts
+pub mod Sizes
+pub mod HeadCells
+pub mod Written
+pub mod Sound
+pub mod Spelled
+pub mod Broken
+pub mod Chains
+pub mod Lists
+pub mod Held
+pub mod FirstSlots
+pub mod Recounted
+pub mod Loosened
+pub mod LetGo
+pub mod Taken
+pub mod Places
+pub mod Placed

@@ -1,0 +1,239 @@
+ghost use Rattle.std.specs.Prelude.{◌≡◌, ◌≤◌, IfOk, OnOk, length};
+
+use super::*;
+use pdb_cells::{CellName, Cells, Draft, HEAD_FILE, MapCells};
+use std::alloc::Global;
+use std::test::*;
+
+// some bytes
+fn some_bytes(alloc: Global, len: usize) -> Result<Vec<u8>, OutOfMemory>
+    requires { len ≤ 8388608 }
+    ensures { IfOk result (λ v. length v.items ≡ len) }
+{
+    let mut bytes = Vec::with_capacity(alloc, len)?;
+    bytes.resize(len, 7)?;
+    Ok(bytes)
+}
+
+// a head cell with these ends of the first tier, low byte first
+fn head(free: u8, end: [u8; 4]) -> [u8; 256] {
+    let mut cell = [0; 256];
+    cell[0] = 1;
+    cell[4] = free;
+    cell[8..12].copy_from_slice(&end);
+    cell
+}
+
+// cells of which column 0 has that head cell
+fn cells_with(alloc: Global, free: u8, end: [u8; 4]) -> Result<MapCells, OutOfMemory> {
+    let mut cells = MapCells::new(alloc);
+    let name = CellName {
+        file: HEAD_FILE,
+        index: 0,
+    };
+    cells.set(name, &head(free, end))?;
+    Ok(cells)
+}
+
+fn at(tier: u8, slot: u32) -> Address
+    ensures { (result.tier ≡ tier) × (result.slot ≡ slot) }
+{
+    Address { tier, slot }
+}
+
+// reads a value of column 0, and its count
+fn read_back(
+    alloc: Global,
+    d: &mut Draft<'_, MapCells>,
+    at: Address,
+    key: &[u8; 32],
+    out: &mut Vec<u8>,
+) -> Result<(bool, Option<u64>), ValueFault> {
+    if at.tier > 15 {
+        return Err(ValueFault::TierFull { tier: at.tier });
+    }
+    let found = read_into(alloc, d, 0, at, key, out)?;
+    Ok((found, count(alloc, d, 0, at, key)?))
+}
+
+#[test]
+fn values_go_to_their_tiers(rt: HostRuntime) -> Result<(), Fail> {
+    for (len, tier, further) in [
+        (0u16, 0, 0u8),
+        (20, 0, 0),
+        (21, 1, 0),
+        (32724, 14, 0),
+        (32725, 15, 8),
+        (36748, 15, 8),
+        (36749, 15, 9),
+    ] {
+        let mut cells = cells_with(rt.alloc(), 0, [0; 4])?;
+        let mut draft = Draft::new(rt.alloc(), &mut cells);
+        let bytes = some_bytes(rt.alloc(), usize::from(len))?;
+        let place_1 = place(rt.alloc(), &mut draft, 0, &[1; 32], 3, &bytes);
+        let place_2 = place(rt.alloc(), &mut draft, 0, &[2; 32], 4, &bytes);
+        let mut out = Vec::new(rt.alloc());
+        let read = read_back(rt.alloc(), &mut draft, at(tier, 1), &[1; 32], &mut out);
+        let other = read_back(rt.alloc(), &mut draft, at(tier, 1), &[2; 32], &mut out);
+        let puts = draft.finish().len();
+        assert_eq!(rt; place_1, Ok(at(tier, 1)));
+        assert_eq!(rt; place_2, Ok(at(tier, 2 + u32::from(further))));
+        assert_eq!(rt; (read, other), (Ok((true, Some(3))), Ok((false, None))));
+        assert_eq!(rt; out, bytes);
+        assert_eq!(rt; puts, 3 + 2 * usize::from(further));
+    }
+    Ok(())
+}
+
+#[test]
+fn counts_rise_and_fall(rt: HostRuntime) -> Result<(), Fail> {
+    let mut cells = cells_with(rt.alloc(), 0, [0; 4])?;
+    let mut draft = Draft::new(rt.alloc(), &mut cells);
+    let placed = place(rt.alloc(), &mut draft, 0, &[1; 32], u64::MAX, &[5]);
+    let stays = (
+        add_ref(rt.alloc(), &mut draft, 0, at(0, 1)),
+        drop_ref(rt.alloc(), &mut draft, 0, at(0, 1)),
+    );
+    let second = place(rt.alloc(), &mut draft, 0, &[2; 32], 1, &[5]);
+    let moves = (
+        add_ref(rt.alloc(), &mut draft, 0, at(0, 2)),
+        drop_ref(rt.alloc(), &mut draft, 0, at(0, 2)),
+        drop_ref(rt.alloc(), &mut draft, 0, at(0, 2)),
+    );
+    let gone = drop_ref(rt.alloc(), &mut draft, 0, at(0, 2));
+    draft.finish();
+    assert_eq!(rt; (placed, second), (Ok(at(0, 1)), Ok(at(0, 2))));
+    assert_eq!(rt; stays, (Ok(u64::MAX), Ok(u64::MAX)));
+    assert_eq!(rt; moves, (Ok(2), Ok(1), Ok(0)));
+    assert_eq!(rt; gone, Err(ValueFault::Damaged { file: 18, cell: 2 }));
+    Ok(())
+}
+
+// sets a cell of column 0's first tier
+fn set_slot(cells: &mut MapCells, slot: u8, front: [u8; 12]) -> Result<(), OutOfMemory> {
+    let mut cell = [0; 64];
+    cell[..12].copy_from_slice(&front);
+    let name = CellName {
+        file: 18,
+        index: u64::from(slot),
+    };
+    cells.set(name, &cell)
+}
+
+#[test]
+fn damaged_cells_are_named(rt: HostRuntime) -> Result<(), Fail> {
+    let damaged = |cell| Err(ValueFault::Damaged { file: 18, cell });
+    for (slot, want) in [
+        // another kind; no count; a length that the slot doesn't hold; a byte behind the value
+        ([9, 0, 0, 0, 1, 0, 0, 0, 0, 0, 0, 0], damaged(1)),
+        ([1, 0, 0, 0, 0, 0, 0, 0, 0, 0, 0, 0], damaged(1)),
+        ([1, 0, 21, 0, 1, 0, 0, 0, 0, 0, 0, 0], damaged(1)),
+        ([1, 1, 0, 0, 1, 0, 0, 0, 0, 0, 0, 0], damaged(1)),
+        ([1, 0, 0, 0, 1, 0, 0, 0, 0, 0, 0, 0], Ok(Some(1))),
+        ([1, 0, 20, 0, 0, 1, 0, 0, 0, 0, 0, 0], Ok(Some(256))),
+    ] {
+        let mut cells = cells_with(rt.alloc(), 0, [1, 0, 0, 0])?;
+        set_slot(&mut cells, 1, slot)?;
+        assert_eq!(rt; count(rt.alloc(), &mut cells, 0, at(0, 1), &[0; 32]), want);
+    }
+    Ok(())
+}
+
+#[test]
+fn slots_are_taken_from_the_free_list(rt: HostRuntime) -> Result<(), Fail> {
+    let damaged = |file, cell| Err(ValueFault::Damaged { file, cell });
+    for (free, end, slot, want) in [
+        (0, [0; 4], [0; 12], Ok(at(0, 1))),
+        (
+            2,
+            [3, 0, 0, 0],
+            [4, 0, 0, 0, 3, 0, 0, 0, 0, 0, 0, 0],
+            Ok(at(0, 2)),
+        ),
+        (
+            2,
+            [3, 0, 0, 0],
+            [4, 0, 0, 0, 4, 0, 0, 0, 0, 0, 0, 0],
+            damaged(18, 2),
+        ),
+        (
+            2,
+            [3, 0, 0, 0],
+            [3, 0, 0, 0, 0, 0, 0, 0, 0, 0, 0, 0],
+            damaged(18, 2),
+        ),
+        (4, [3, 0, 0, 0], [0; 12], damaged(9, 0)),
+        (0, [254, 255, 255, 255], [0; 12], Ok(at(0, u32::MAX))),
+        (0, [255; 4], [0; 12], Err(ValueFault::TierFull { tier: 0 })),
+    ] {
+        let mut cells = cells_with(rt.alloc(), free, end)?;
+        set_slot(&mut cells, 2, slot)?;
+        let mut draft = Draft::new(rt.alloc(), &mut cells);
+        let placed = place(rt.alloc(), &mut draft, 0, &[1; 32], 1, &[5]);
+        draft.finish();
+        assert_eq!(rt; placed, want);
+    }
+    Ok(())
+}
+
+#[test]
+fn values_are_replaced_in_their_tier(rt: HostRuntime) -> Result<(), Fail> {
+    let mut cells = cells_with(rt.alloc(), 0, [0; 4])?;
+    let mut draft = Draft::new(rt.alloc(), &mut cells);
+    let placed = place(rt.alloc(), &mut draft, 0, &[1; 32], 6, &[5]);
+    let mut out = Vec::new(rt.alloc());
+    let short = replace(rt.alloc(), &mut draft, 0, at(0, 1), &[9; 20]);
+    let long = replace(rt.alloc(), &mut draft, 0, at(0, 1), &[8; 21]);
+    let read = read_back(rt.alloc(), &mut draft, at(0, 1), &[1; 32], &mut out);
+    draft.finish();
+    assert_eq!(rt; placed, Ok(at(0, 1)));
+    assert_eq!(rt; (short, long), (Ok(true), Ok(false)));
+    assert_eq!(rt; read, Ok((true, Some(6))));
+    assert_eq!(rt; out.as_slice(), [9; 20].as_slice());
+    Ok(())
+}
+
+#[test]
+fn the_disk_fails(rt: HostRuntime) -> Result<(), Fail> {
+    for call in 0..2u64 {
+        let mut cells = cells_with(rt.alloc(), 0, [1, 0, 0, 0])?;
+        set_slot(&mut cells, 1, [1, 0, 0, 0, 1, 0, 0, 0, 0, 0, 0, 0])?;
+        cells.fail_at(call)?;
+        let read = count(rt.alloc(), &mut cells, 0, at(0, 1), &[0; 32]);
+        assert_eq!(rt; (read, cells.faults()), (Err(ValueFault::Disk), 1));
+    }
+    Ok(())
+}
+
+#[test]
+fn parts_are_freed_in_their_order(rt: HostRuntime) -> Result<(), Fail> {
+    let mut cells = cells_with(rt.alloc(), 0, [0; 4])?;
+    let mut draft = Draft::new(rt.alloc(), &mut cells);
+    let bytes = some_bytes(rt.alloc(), 32725)?;
+    let first = place(rt.alloc(), &mut draft, 0, &[1; 32], 1, &bytes);
+    let left = drop_ref(rt.alloc(), &mut draft, 0, at(15, 1));
+    // the last part was freed last, and is taken first: head 9, then the parts 8 to 1
+    let second = place(rt.alloc(), &mut draft, 0, &[2; 32], 1, &bytes);
+    let mut out = Vec::new(rt.alloc());
+    let read = read_back(rt.alloc(), &mut draft, at(15, 9), &[2; 32], &mut out);
+    let mut cell = [0; 4096];
+    let name = CellName { file: 33, index: 1 };
+    let last = draft.read(name, &mut cell);
+    let there = (cell[0], cell[2], cell[4]);
+    // a part that names itself as the next one ends in an answer
+    cell = [0; 4096];
+    cell[0] = 3;
+    cell[2..4].copy_from_slice(&4088u16.to_le_bytes());
+    cell[4] = 8;
+    let ring = draft.put(CellName { file: 33, index: 8 }, &cell);
+    let round = read_back(rt.alloc(), &mut draft, at(15, 9), &[2; 32], &mut out);
+    draft.finish();
+    assert_eq!(rt;
+        (first, left, second),
+        (Ok(at(15, 1)), Ok(0), Ok(at(15, 9)))
+    );
+    assert_eq!(rt; read, Ok((true, Some(1))));
+    assert_eq!(rt; (last, ring, there), (Ok(()), Ok(()), (3, 65, 0)));
+    assert_eq!(rt; round, Err(ValueFault::Damaged { file: 33, cell: 8 }));
+    Ok(())
+}
