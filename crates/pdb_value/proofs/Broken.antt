@@ -1,13 +1,12 @@
 -- The cells that a fault names break the rules.
-use Rattle.std.proofs.Common.{◌≡◌, ◌<◌, ◌≤◌, ◌^◌, ◌⊎◌, ℕ, List, sym, ap, subst, ◌∙◌, refl, arith, inl, inr}
+use Rattle.std.proofs.Common.{◌≡◌, ◌<◌, ◌^◌, ℕ, List, sym, ap, subst, ◌∙◌, arith, inr}
 use Rattle.pdb_cells.specs.Content.{Content}
 use Rattle.pdb_model.specs.Breaks.{HasEnd, IsNotFree}
 use Rattle.pdb_model.specs.Files.{head_cell, table_cells, table_file}
 use Rattle.pdb_model.specs.Heads.{Ends, IsHeadCell, ends_at, ends_bytes}
-use Rattle.pdb_model.specs.Slots.{IsFree}
 use Rattle.pdb_value.specs.declared.fault.ValueFault.{ValueFault}
 use Rattle.pdb_value.specs.declared.fault.ValueFault.TheVariants.{Damaged, Disk, OutOfMemory, TierFull}
-use Rattle.pdb_value.specs.Faults.{BreaksFreeList, FaultSays, NoCell, NoTier}
+use Rattle.pdb_value.specs.Faults.{BreaksFreeList, FaultSays, NoTier}
 use Rattle.pdb_value.proofs.HeadCells.{said_is}
 
 -- a fault says more of the same cells
@@ -33,7 +32,7 @@ pub free_list_broken : (cells : Content) (column tier : ℕ) (head : List ℕ) (
     → FaultSays (BreaksFreeList column tier cells) Q e
 free_list_broken cells column tier head free end Q e small is keeps f n said h =
     says_more _ _ _ _ e (λ file cell (d : (file ≡ table_file column tier) × (cell ≡ free) × IsNotFree tier end (table_cells cells column tier free)).
-        inr (d.0, (end, has_end cells column tier head free end small is keeps f n said, subst (λ (b : List ℕ). IsNotFree tier end b) (ap (λ k. table_cells cells column tier k) (sym d.1) ∙ ap (λ k. cells k cell) (sym d.0)) d.2)))
+    inr (d.0, (end, has_end cells column tier head free end small is keeps f n said, subst (λ (b : List ℕ). IsNotFree tier end b) (ap (λ k. table_cells cells column tier k) (sym d.1) ∙ ap (λ k. cells k cell) (sym d.0)) d.2)))
     (λ u none. absurd none) h
 
 -- a head cell says one end of a tier

@@ -1,11 +1,11 @@
 -- What is read of a value's first slot.
-use Rattle.std.proofs.Common.{◌≡◌, ◌≢◌, ◌⊎◌, ◌+◌, ◌-◌, ◌*◌, ◌/◌, ◌^◌, ◌<◌, ◌≤◌, ◌++◌, ◌==◌, if◌then◌else◌, Bool, true, false, not, ℕ, List, [], ◌∷◌, length, take, drop, replicate, min, refl, sym, ap, subst, ◌∙◌, arith, inl, inr, length-append}
+use Rattle.std.proofs.Common.{◌≡◌, ◌+◌, ◌-◌, ◌/◌, ◌<◌, ◌≤◌, ◌++◌, ◌==◌, if◌then◌else◌, Bool, true, false, not, ℕ, List, length, take, drop, replicate, refl, sym, ap, subst, ◌∙◌, arith, inl, inr, length-append}
 use Rattle.std.specs.Int.{w32, to_le_bytes}
 use Rattle.std.proofs.Math.Seq.{take-append_seam, drop-append_seam}
 use Rattle.std.proofs.lemmas.List.{drop-drop}
 use Rattle.pdb_cells.specs.Content.{Content}
 use Rattle.pdb_model.specs.Breaks.{HasEnd, IsNoPart}
-use Rattle.pdb_model.specs.Files.{head_cell, table_cells, table_file}
+use Rattle.pdb_model.specs.Files.{table_cells, table_file}
 use Rattle.pdb_model.specs.Slots.{IsHeadOfParts, IsWhole}
 use Rattle.pdb_model.specs.Tables.{first, part_count, slots_of}
 use Rattle.pdb_model.specs.Tiers.{in_head, parts_tier, slot_size, tier_of}
@@ -97,8 +97,18 @@ parts_at cells column tier s end len next count cell key key' d out parts bytes 
     let two : IsHeadOfParts cell key' count (length out) next v.0 = subst (λ m. IsHeadOfParts cell key' count m next v.0) (sym all) one in
     let three : IsHeadOfParts cell key' count (length out) (first parts) v.0 = subst (λ m. IsHeadOfParts cell key' count (length out) m v.0) (sym f) two in
     let four : IsHeadOfParts cell key' count (length out) (first parts) (take in_head out) = subst (IsHeadOfParts cell key' count (length out) (first parts)) (sym front) three in
-    inr (low, (end, has, (parts, subst (λ (c : List ℕ). IsHeadOfParts c key' count (length out) (first parts) (take in_head out)) is four,
-        subst (λ u. AreParts end (table_cells cells column u) parts (drop in_head out)) (sym low) (subst (AreParts end (table_cells cells column parts_tier) parts) (sym back) are))))
+    inr (
+      low,
+      (
+        end,
+        has,
+        (
+          parts,
+          subst (λ (c : List ℕ). IsHeadOfParts c key' count (length out) (first parts) (take in_head out)) is four,
+          subst (λ u. AreParts end (table_cells cells column u) parts (drop in_head out)) (sym low) (subst (AreParts end (table_cells cells column parts_tier) parts) (sym back) are),
+        ),
+      ),
+    )
 
 pub slots_long : (tier len : ℕ) → tier ≡ 15 → tier ≡ tier_of len → slots_of len ≡ 1 + (len - 4044 + 4087) / 4088
 slots_long tier len e l = ap (λ n. if n == parts_tier then 1 + part_count len else 1) (sym l ∙ e)

@@ -1,14 +1,14 @@
 -- What a table's slot that holds a value says of the cells.
-use Rattle.std.proofs.Common.{◌≡◌, ◌≢◌, ◌⊎◌, ◌+◌, ◌-◌, ◌*◌, ◌/◌, ◌^◌, ◌<◌, ◌≤◌, ◌==◌, ℕ, zero, suc, List, [], ◌∷◌, ◌++◌, Option, Some, None, length, take, drop, min, refl, sym, ap, subst, ◌∙◌, arith, inl, inr, length-drop}
-use Rattle.std.proofs.lemmas.List.{drop-drop, length-take, nil_from_length, take-append-drop}
-use Rattle.std.specs.Prelude.{slice_get, slice_index}
+use Rattle.std.proofs.Common.{◌≡◌, ◌⊎◌, ◌+◌, ◌-◌, ◌*◌, ◌/◌, ◌<◌, ◌≤◌, ℕ, List, [], ◌∷◌, ◌++◌, Some, length, take, drop, refl, sym, ap, subst, ◌∙◌, arith, inl, inr, length-drop}
+use Rattle.std.proofs.lemmas.List.{drop-drop, nil_from_length, take-append-drop}
+use Rattle.std.specs.Prelude.{slice_index}
 use Rattle.pdb_cells.specs.Content.{Content}
-use Rattle.pdb_model.specs.Breaks.{HasEnd, IsNoValue}
+use Rattle.pdb_model.specs.Breaks.{HasEnd}
 use Rattle.pdb_model.specs.Files.{head_cell, table_cells}
-use Rattle.pdb_model.specs.Heads.{Ends, IsHeadCell}
+use Rattle.pdb_model.specs.Heads.{IsHeadCell}
 use Rattle.pdb_model.specs.Slots.{IsHeadOfParts, IsPart, IsWhole}
-use Rattle.pdb_model.specs.Tables.{Slot, Whole, Parted, Part, Free, Loose, Outside, Table, Held, IsTable, IsSlot, SpellsTable, after, bytes_of_part, first, held, part_count, parts_of}
-use Rattle.pdb_model.specs.Tiers.{in_head, in_part, parts_tier, tier_of}
+use Rattle.pdb_model.specs.Tables.{Slot, Whole, Parted, Part, Free, Loose, Outside, Table, Held, IsSlot, SpellsTable, after, bytes_of_part, first, held, parts_of}
+use Rattle.pdb_model.specs.Tiers.{in_head, in_part, parts_tier}
 use Rattle.pdb_value.specs.Faults.{FaultSays, HasTable, NoCell, NoTier}
 use Rattle.pdb_value.specs.Values.{AreParts, IsValueAt}
 use Rattle.pdb_value.proofs.Chains.{same_parts}
@@ -56,8 +56,7 @@ chain tier head cells t h key count value parts spells is (s ∷ rest) j from n 
     let part : t.slot s ≡ Part h j (bytes_of_part value j) (slice_index parts (j + 1)) = spells.is.parts h key count value parts is j s at.0 in
     let used = used_by t s spells.is (not_outside (t.slot s) h j (bytes_of_part value j) (slice_index parts (j + 1)) part) in
     let next : slice_index parts (j + 1) ≡ first rest = sym (first_index parts (j + 1)) ∙ ap first at.1 in
-    let cut : drop in_part (drop (in_head + in_part * j) value) ≡ drop (in_head + in_part * (j + 1)) value = drop-drop in_part (in_head + in_part * j) value ∙ ap (λ n. drop n value) (let q : in_head + in_part * j + in_part ≡ in_head + in_part * (j + 1) = omega arith in q) in
-    (
+    let cut : drop in_part (drop (in_head + in_part * j) value) ≡ drop (in_head + in_part * (j + 1)) value = drop-drop in_part (in_head + in_part * j) value ∙ ap (λ n. drop n value) (let q : in_head + in_part * j + in_part ≡ in_head + in_part * (j + 1) = omega arith in q) in (
       omega arith,
       used.0,
       used.1,
@@ -130,7 +129,7 @@ agrees cells column tier s end t h cell key count len next spells holds is read 
           elim read [
             | inl a ↦
                 let same = one_whole tier cell key h.key a.0 h.value count h.count
-                    (let q = whole_short (length a.0) tier a.1.not_parts a.1.lowest in omega arith) (let q = whole_short (length h.value) tier whole.not_parts whole.lowest in omega arith) a.1 whole in
+                (let q = whole_short (length a.0) tier a.1.not_parts a.1.lowest in omega arith) (let q = whole_short (length h.value) tier whole.not_parts whole.lowest in omega arith) a.1 whole in
                 record { key_is = same.key_is; count_is = same.count_is; len_is = a.2 ∙ ap length same.value_is; next_is = a.3 ∙ ap (λ x. first (parts_of x)) (sym w) }
             | inr b ↦ let low = whole.not_parts in absurd (omega (arith, b.0))
           ]
@@ -155,7 +154,7 @@ value_is cells column tier s t h key count value spells holds there =
           elim there [
             | inl a ↦
                 let same = one_whole tier (table_cells cells column tier s) h.key key h.value value h.count count
-                    (let q = whole_short (length h.value) tier whole.not_parts whole.lowest in omega arith) (let q = whole_short (length value) tier a.not_parts a.lowest in omega arith) whole a in
+                (let q = whole_short (length h.value) tier whole.not_parts whole.lowest in omega arith) (let q = whole_short (length value) tier a.not_parts a.lowest in omega arith) whole a in
                 (same.key_is, same.value_is)
             | inr b ↦ let low = whole.not_parts in absurd (omega (arith, b.0))
           ]
@@ -168,8 +167,8 @@ value_is cells column tier s t h key count value spells holds there =
                 let end : b.1.0 ≡ t.end = end_is cells column tier b.1.0 t (omega (arith, b.0)) b.1.1 spells in
                 let are = parts_held tier (head_cell cells column) (table_cells cells column tier) t s h.key h.count h.value p.0 spells p.1 in
                 let tail = same_parts t.end (table_cells cells column tier) p.0 b.1.2.0 (drop in_head h.value) (drop in_head value) are
-                    (subst (λ n. AreParts n (table_cells cells column tier) b.1.2.0 (drop in_head value)) end b.1.2.2) same.links.next_is
-                    (let m = length-drop in_head h.value in let n = length-drop in_head value in let l = same.links.whole_is in omega arith) in
+                (subst (λ n. AreParts n (table_cells cells column tier) b.1.2.0 (drop in_head value)) end b.1.2.2) same.links.next_is
+                (let m = length-drop in_head h.value in let n = length-drop in_head value in let l = same.links.whole_is in omega arith) in
                 (same.key_is, sym (take-append-drop in_head h.value) ∙ (ap (λ x. x ++ drop in_head h.value) same.links.value_is ∙ (ap (λ x. take in_head value ++ x) tail ∙ take-append-drop in_head value)))
           ]
     ]

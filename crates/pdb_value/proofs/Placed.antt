@@ -1,5 +1,5 @@
 -- A value in parts is placed in slots that were taken for it.
-use Rattle.std.proofs.Common.{◌≡◌, ◌≢◌, ◌⊎◌, ◌+◌, ◌-◌, ◌*◌, ◌/◌, ◌^◌, ◌<◌, ◌≤◌, ◌==◌, Bool, true, false, if◌then◌else◌, ℕ, zero, suc, List, [], ◌∷◌, Option, Some, None, length, take, drop, get_or, refl, sym, ap, subst, ◌∙◌, arith, inl, inr, length-drop}
+use Rattle.std.proofs.Common.{◌≡◌, ◌+◌, ◌-◌, ◌*◌, ◌/◌, ◌^◌, ◌<◌, ◌≤◌, ◌==◌, if◌then◌else◌, ℕ, zero, suc, List, [], ◌∷◌, Some, length, take, drop, get_or, refl, sym, ap, subst, ◌∙◌, arith, inl, inr, length-drop}
 use Rattle.std.proofs.lemmas.Bool.Decides.{eqb_tells}
 use Rattle.std.specs.List.{position}
 use Rattle.std.specs.Prelude.{slice_get, slice_index}
@@ -15,11 +15,11 @@ use Rattle.pdb_value.proofs.Spelled.{only_on, only_slot, put_elsewhere, put_ther
 use Rattle.pdb_model.specs.Files.{head_cell, table_cells, table_file}
 use Rattle.pdb_model.specs.Heads.{ends_at}
 use Rattle.pdb_model.specs.Slots.{IsHeadOfParts, IsPart, head_bytes, padded, part_bytes}
-use Rattle.pdb_model.specs.Tables.{Slot, Whole, Parted, Part, Free, Loose, Outside, Table, IsTable, IsSlot, Lists, SpellsTable, after, bytes_of_part, first, holding, holding_parts, next_slot, part_at, part_count, placed, placed_in, room_of, slots_of, slots_taken, taken, taken_many, times, times_free, with_slot}
+use Rattle.pdb_model.specs.Tables.{Slot, Parted, Part, Loose, Outside, Table, IsTable, IsSlot, Lists, SpellsTable, after, bytes_of_part, first, holding, holding_parts, next_slot, part_at, part_count, placed, placed_in, room_of, slots_of, slots_taken, taken, taken_many, times, times_free, with_slot}
 use Rattle.pdb_model.specs.Tiers.{in_head, in_part, parts_tier, slot_size, tier_of}
 use Rattle.pdb_value.specs.inner.Loose.{AreLoose}
 use Rattle.pdb_value.proofs.Loosened.{differs}
-use Rattle.pdb_value.proofs.Places.{At, Nowhere, Stands, stands}
+use Rattle.pdb_value.proofs.Places.{At, Nowhere, stands}
 use Rattle.pdb_value.proofs.Sound.{here, same_or, table, take_sound, there}
 
 -- a slot on a list of loose ones is loose, and another than one that isn't there
@@ -105,8 +105,8 @@ placed_part : (t : Table) (h : ℕ) (key : List ℕ) (count : ℕ) (value parts 
 placed_part t h key count value parts r g k c v ps j s q same at =
     let got : slice_get parts j ≡ Some s = ap (λ p. slice_get p j) (sym same.parts_are) ∙ at in
     let named : Part h j (bytes_of_part value j) (slice_index parts (j + 1)) ≡ Part g j (bytes_of_part v j) (slice_index ps (j + 1)) =
-        ap (λ h. Part h j (bytes_of_part value j) (slice_index parts (j + 1))) (sym q)
-        ∙ (ap (λ v. Part g j (bytes_of_part v j) (slice_index parts (j + 1))) (sym same.value_is) ∙ ap (λ p. Part g j (bytes_of_part v j) (slice_index p (j + 1))) (sym same.parts_are)) in
+    ap (λ h. Part h j (bytes_of_part value j) (slice_index parts (j + 1))) (sym q)
+    ∙ (ap (λ v. Part g j (bytes_of_part v j) (slice_index parts (j + 1))) (sym same.value_is) ∙ ap (λ p. Part g j (bytes_of_part v j) (slice_index p (j + 1))) (sym same.parts_are)) in
     elim (becomes t h key count value parts s) [
       | IsTop e x ↦ absurd (other_got parts h j s r.loose.1 got e)
       | IsOne i ne there x ↦ x ∙ (ap (λ i. Part h i (bytes_of_part value i) (slice_index parts (i + 1))) (one_place t parts i j s r.loose.2 there got) ∙ named)
@@ -117,7 +117,7 @@ listed_there : (t : Table) (h : ℕ) (key : List ℕ) (count : ℕ) (value parts
 listed_there t h key count value parts g k j i same got =
     subst (λ g. Lists (slot_then t h key count value parts g) j i) same.head_is
     (same_or h h (λ b. Lists (if b then Parted key count value parts else part_at h value parts (t.slot h) (position (λ s. s == h) parts)) j i)
-        (λ _. ap (slice_get parts) (sym same.place_is) ∙ got) (λ ne. absurd (ne refl)))
+    (λ _. ap (slice_get parts) (sym same.place_is) ∙ got) (λ ne. absurd (ne refl)))
 
 pub holding_sound : (t : Table) (h : ℕ) (key : List ℕ) (count : ℕ) (value parts : List ℕ) → AreReady t h value parts → IsTable (holding_parts t h key count value parts)
 holding_sound t h key count value parts r = record {
@@ -278,8 +278,8 @@ pub placed_whole : (t : Table) (key : List ℕ) (count : ℕ) (value : List ℕ)
 placed_whole t key count value ne =
     ap (λ n. placed_in (taken_many n t) key count value (slots_taken n t)) (one_slot (length value) ne)
     ∙ same_or (tier_of (length value)) parts_tier
-        (λ b. (if b then holding_parts (taken t) (next_slot t.free t.end) key count value [] else holding (taken t) (next_slot t.free t.end) key count value) ≡ holding (taken t) (next_slot t.free t.end) key count value)
-        (λ e. absurd (ne e)) (λ _. refl)
+    (λ b. (if b then holding_parts (taken t) (next_slot t.free t.end) key count value [] else holding (taken t) (next_slot t.free t.end) key count value) ≡ holding (taken t) (next_slot t.free t.end) key count value)
+    (λ e. absurd (ne e)) (λ _. refl)
 
 placed_list : (t : Table) (key : List ℕ) (count : ℕ) (value : List ℕ) (h : ℕ) (parts : List ℕ) → tier_of (length value) ≡ parts_tier → placed_in t key count value (h ∷ parts) ≡ holding_parts t h key count value parts
 placed_list t key count value h parts e =
@@ -306,25 +306,25 @@ parts_placed column n t mid last slots further others value key cell count next 
     let ready : AreReady (taken_many n t) h value (drop 1 slots) = record { is = spells.is; loose = loose; count_is = length-drop 1 slots ∙ omega arith } in
     subst (HasTable (put_cell (table_file column parts_tier) h cell last) column parts_tier) (sym (placed_parts t key count value n slots e is all (omega arith)))
     (holding_spelled (head_cell mid column) (head_cell (put_cell (table_file column parts_tier) h cell last) column) (table_cells mid column parts_tier)
-        (table_cells (put_cell (table_file column parts_tier) h cell last) column parts_tier) (taken_many n t) h key count value (drop 1 slots) spells ready
-        (ap (ends_at parts_tier) (same_head column parts_tier h cell last ∙ wrote.head))
-        (subst (λ (c : List ℕ). IsHeadOfParts c key count (length value) (first (drop 1 slots)) (take in_head value)) (sym (put_there column parts_tier h h cell last refl)) (record {
-          spelled = spelled ∙ ap (λ m. head_bytes key count (length value) m (take in_head value)) (follows ∙ second slots);
-          counted = record { key_len = k; some = some; narrow = narrow };
-          full = let m = length-take in_head value in omega arith;
-          long = e;
-          not_too_long = most;
-          narrow = subst (λ m. m < 2 ^ 32) (follows ∙ second slots) small;
-        }))
-        (λ j s got.
-            let at : slice_get further j ≡ Some s = ap (λ l. slice_get l j) rest ∙ got in
-            let ne : s ≡ h → ⊥ = other_got (drop 1 slots) h j s loose.1 got in
-            let part = wrote.parts apart j s (slice_get_within further j s at) at in
-            subst (λ (c : List ℕ). IsPart c (slice_index (drop 1 slots) (j + 1)) (bytes_of_part value j)) (sym (put_elsewhere column parts_tier h s cell last ne))
-            (subst (λ (b : List ℕ). IsPart (table_cells last column parts_tier s) (slice_index (drop 1 slots) (j + 1)) b)
-                (ap (λ o. take in_part (drop (in_part * j) o)) behind ∙ ap (take in_part) (drop-drop (in_part * j) in_head value))
-            (subst (λ l. IsPart (table_cells last column parts_tier s) (slice_index l (j + 1)) (take in_part (drop (in_part * j) others))) rest part)))
-        (λ i ne none. put_elsewhere column parts_tier h i cell last ne ∙ wrote.others i (λ j at. none j (ap (λ l. slice_get l j) (sym rest) ∙ at))))
+    (table_cells (put_cell (table_file column parts_tier) h cell last) column parts_tier) (taken_many n t) h key count value (drop 1 slots) spells ready
+    (ap (ends_at parts_tier) (same_head column parts_tier h cell last ∙ wrote.head))
+    (subst (λ (c : List ℕ). IsHeadOfParts c key count (length value) (first (drop 1 slots)) (take in_head value)) (sym (put_there column parts_tier h h cell last refl)) (record {
+      spelled = spelled ∙ ap (λ m. head_bytes key count (length value) m (take in_head value)) (follows ∙ second slots);
+      counted = record { key_len = k; some = some; narrow = narrow };
+      full = let m = length-take in_head value in omega arith;
+      long = e;
+      not_too_long = most;
+      narrow = subst (λ m. m < 2 ^ 32) (follows ∙ second slots) small;
+    }))
+    (λ j s got.
+    let at : slice_get further j ≡ Some s = ap (λ l. slice_get l j) rest ∙ got in
+    let ne : s ≡ h → ⊥ = other_got (drop 1 slots) h j s loose.1 got in
+    let part = wrote.parts apart j s (slice_get_within further j s at) at in
+    subst (λ (c : List ℕ). IsPart c (slice_index (drop 1 slots) (j + 1)) (bytes_of_part value j)) (sym (put_elsewhere column parts_tier h s cell last ne))
+    (subst (λ (b : List ℕ). IsPart (table_cells last column parts_tier s) (slice_index (drop 1 slots) (j + 1)) b)
+    (ap (λ o. take in_part (drop (in_part * j) o)) behind ∙ ap (take in_part) (drop-drop (in_part * j) in_head value))
+    (subst (λ l. IsPart (table_cells last column parts_tier s) (slice_index l (j + 1)) (take in_part (drop (in_part * j) others))) rest part)))
+    (λ i ne none. put_elsewhere column parts_tier h i cell last ne ∙ wrote.others i (λ j at. none j (ap (λ l. slice_get l j) (sym rest) ∙ at))))
 
 pub head_of : (xs : List ℕ) (x : ℕ) → 1 ≤ length xs → x ≡ get_or xs 0 x → x ≡ slice_index xs 0
 head_of [] x some e = absurd (omega arith)

@@ -1,18 +1,17 @@
 -- A value gets another count.
-use Rattle.std.proofs.Common.{◌≡◌, ◌≢◌, ◌⊎◌, ◌+◌, ◌-◌, ◌*◌, ◌^◌, ◌<◌, ◌≤◌, ◌==◌, Bool, true, false, if◌then◌else◌, ℕ, List, [], ◌∷◌, ◌++◌, Some, length, take, replicate, refl, sym, ap, subst, ◌∙◌, arith, inl, inr}
-use Rattle.std.specs.Prelude.{slice_get, slice_index}
-use Rattle.std.specs.Int.{w32, to_le_bytes}
+use Rattle.std.proofs.Common.{◌≡◌, ◌+◌, ◌^◌, ◌<◌, ◌≤◌, if◌then◌else◌, ℕ, List, Some, length, take, refl, sym, ap, subst, ◌∙◌, arith, inl, inr}
+use Rattle.std.specs.Prelude.{slice_index}
 use Rattle.pdb_cells.specs.Content.{Content, put_cell}
-use Rattle.pdb_model.specs.Files.{head_cell, table_cells, table_file}
+use Rattle.pdb_model.specs.Files.{table_cells, table_file}
 use Rattle.pdb_model.specs.Heads.{ends_at}
 use Rattle.pdb_model.specs.Slots.{IsHeadOfParts, IsWhole, padded, whole_bytes}
-use Rattle.pdb_model.specs.Tables.{Slot, Whole, Parted, Part, Free, Loose, Outside, Table, Held, IsTable, IsSlot, Lists, SpellsTable, after, bytes_of_part, first, held, holding, part_count, recounted, times, times_free, with_count, with_slot}
-use Rattle.pdb_model.specs.Tiers.{in_head, parts_tier, slot_size, tier_of}
+use Rattle.pdb_model.specs.Tables.{Slot, Whole, Parted, Part, Free, Loose, Outside, Table, Held, IsTable, IsSlot, Lists, after, bytes_of_part, first, held, holding, part_count, recounted, times, times_free, with_count, with_slot}
+use Rattle.pdb_model.specs.Tiers.{in_head, slot_size, tier_of}
 use Rattle.pdb_value.specs.Faults.{HasTable}
 use Rattle.pdb_value.specs.inner.Fields.{counted_bytes}
 use Rattle.pdb_value.proofs.Held.{held_head, held_is, held_whole}
 use Rattle.pdb_value.proofs.Layouts.{head_fields, whole_fields}
-use Rattle.pdb_value.proofs.Sound.{elsewhere, same_or, there, whole_used}
+use Rattle.pdb_value.proofs.Sound.{same_or, whole_used}
 use Rattle.pdb_value.proofs.Spelled.{hold_spelled, put_elsewhere, put_there, same_head}
 
 free_same : (x : Slot) (n : ℕ) → times_free x ≡ times_free (with_count x n)
@@ -73,9 +72,9 @@ recount_sound t s n is = record {
   within = λ i e some. from_count t s n i Outside (t.end < i) e (λ q. is.within i (outside_back (t.slot i) n q) some) (λ q. is.within i q some);
   parts = λ h key count value parts e j i at. from_count t s n h (Parted key count value parts) _ e
       (λ q. let back = parted_back (t.slot h) n key count value parts q in let p = is.parts h key back.0 value parts back.1 j i at in
-          each t s n i (λ x. x ≡ Part h j (bytes_of_part value j) (slice_index parts (j + 1))) (ap (λ x. with_count x n) p) p)
+      each t s n i (λ x. x ≡ Part h j (bytes_of_part value j) (slice_index parts (j + 1))) (ap (λ x. with_count x n) p) p)
       (λ q. let p = is.parts h key count value parts q j i at in
-          each t s n i (λ x. x ≡ Part h j (bytes_of_part value j) (slice_index parts (j + 1))) (ap (λ x. with_count x n) p) p);
+      each t s n i (λ x. x ≡ Part h j (bytes_of_part value j) (slice_index parts (j + 1))) (ap (λ x. with_count x n) p) p);
   all_parts = λ h key count value parts e. from_count t s n h (Parted key count value parts) (length parts ≡ part_count (length value)) e
       (λ q. let back = parted_back (t.slot h) n key count value parts q in is.all_parts h key back.0 value parts back.1) (is.all_parts h key count value parts);
   owned = λ i h j bytes next e. from_count t s n i (Part h j bytes next) _ e
@@ -122,7 +121,7 @@ recount_spelled cells column tier s n t h cell spells holds some small set = rec
   ends = ap (ends_at tier) (same_head column tier s cell cells) ∙ spells.ends;
   slots = λ i. same_or i s (λ b. IsSlot tier (if b then with_count (t.slot s) n else t.slot i) (after i t.free) (table_cells (put_cell (table_file column tier) s cell cells) column tier i))
       (λ e. subst (IsSlot tier (with_count (t.slot s) n) (after i t.free)) (sym (put_there column tier s i cell cells e))
-          (slot_counted tier s (after i t.free) (t.slot s) h (table_cells cells column tier s) cell n holds (subst (λ k. IsSlot tier (t.slot k) (after i t.free) (table_cells cells column tier k)) e (spells.slots i)) some small set))
+      (slot_counted tier s (after i t.free) (t.slot s) h (table_cells cells column tier s) cell n holds (subst (λ k. IsSlot tier (t.slot k) (after i t.free) (table_cells cells column tier k)) e (spells.slots i)) some small set))
       (λ ne. subst (IsSlot tier (t.slot i) (after i t.free)) (sym (put_elsewhere column tier s i cell cells ne)) (spells.slots i));
 }
 

@@ -1,20 +1,19 @@
 -- Cells after a step spell the table after it.
-use Rattle.std.proofs.Common.{◌≡◌, ◌≢◌, ◌+◌, ◌-◌, ◌*◌, ◌^◌, ◌<◌, ◌≤◌, ◌==◌, Bool, true, false, if◌then◌else◌, ℕ, List, [], ◌∷◌, length, take, drop, refl, sym, ap, subst, ◌∙◌, arith, inl, inr}
-use Rattle.std.proofs.lemmas.Bool.Decides.{eqb_tells}
+use Rattle.std.proofs.Common.{◌≡◌, ◌+◌, ◌^◌, ◌<◌, ◌≤◌, ◌==◌, Bool, true, false, if◌then◌else◌, ℕ, List, [], ◌∷◌, length, take, drop, refl, sym, ap, subst, ◌∙◌, arith}
 use Rattle.pdb_cells.specs.Content.{Content, put_cell}
 use Rattle.pdb_cells.specs.Sizes.{head_file}
 use Rattle.pdb_model.specs.Files.{OnlyTable, head_cell, table_cells, table_file}
 use Rattle.pdb_model.specs.Heads.{Ends, IsHeadCell, ends_at, ends_bytes}
 use Rattle.pdb_model.specs.Slots.{IsFree, IsWhole, free_bytes, padded}
-use Rattle.pdb_model.specs.Tables.{Slot, Whole, Parted, Part, Free, Loose, Outside, Table, IsTable, IsSlot, SpellsTable, times, times_free, first, after, with_slot, next_slot, free_after, end_after, taken, holding, freed}
+use Rattle.pdb_model.specs.Tables.{Slot, Whole, Parted, Part, Free, Loose, Outside, Table, IsSlot, SpellsTable, times_free, first, after, with_slot, next_slot, free_after, end_after, taken, holding}
 use Rattle.pdb_model.specs.Tiers.{slot_size}
 use Rattle.pdb_value.specs.Faults.{HasTable}
-use Rattle.pdb_value.specs.inner.HeadCells.{ends_said, with_ends}
+use Rattle.pdb_value.specs.inner.HeadCells.{with_ends}
 use Rattle.pdb_value.specs.inner.Steps.{IsFreed, IsTaken}
 use Rattle.pdb_value.proofs.HeadCells.{said_is}
 use Rattle.pdb_value.proofs.Broken.{has_end}
 use Rattle.pdb_value.proofs.Layouts.{one_next}
-use Rattle.pdb_value.proofs.Sound.{IsUsed, elsewhere, first_within, free_sound, here, hold_sound, listed, same_or, table, take_sound, there}
+use Rattle.pdb_value.proofs.Sound.{IsUsed, first_within, free_sound, here, hold_sound, listed, same_or, table, take_sound}
 use Rattle.pdb_value.proofs.Written.{ends_written, first_kept, head_kept, last_kept, not_head, others_kept, put_file, put_here, put_index, written_len}
 
 -- ---- what changes in the cells
@@ -159,9 +158,9 @@ took_end cells column tier head written free end small len is keeps f said zero 
           let read = ends_are_read tier head (table_cells cells column tier) t free end (subst (λ h. SpellsTable tier h (table_cells cells column tier) t) (sym is) spells) f (omega arith) said in
           let low : t.end + 1 < 2 ^ 32 = omega (arith, read.1) in
           let step = end_taken tier (head_cell cells column) (head_cell (put_cell head_file column written cells) column) (table_cells cells column tier)
-              (table_cells (put_cell head_file column written cells) column tier) t.slot t.free t.end spells (sym zero ∙ read.0) low
-              (ap (ends_at tier) now ∙ (ends_written tier head e len small ∙ ap (λ n. ends_bytes (record { free = 0; end = n + 1 })) read.1))
-              (λ i. put_file head_file column (table_file column tier) i written cells (not_head column tier)) in
+          (table_cells (put_cell head_file column written cells) column tier) t.slot t.free t.end spells (sym zero ∙ read.0) low
+          (ap (ends_at tier) now ∙ (ends_written tier head e len small ∙ ap (λ n. ends_bytes (record { free = 0; end = n + 1 })) read.1))
+          (λ i. put_file head_file column (table_file column tier) i written cells (not_head column tier)) in
           (ap (λ n. n + 1) read.1 ∙ step.0, step.1);
     }
 
@@ -179,10 +178,10 @@ took_first cells column tier head written free end next small len is keeps f n s
       table = λ t spells.
           let at = ends_are_read tier head (table_cells cells column tier) t free end (subst (λ h. SpellsTable tier h (table_cells cells column tier) t) (sym is) spells) f n said in
           let step = first_taken tier (head_cell cells column) (head_cell (put_cell head_file column written cells) column) (table_cells cells column tier)
-              (table_cells (put_cell head_file column written cells) column tier) t.slot t.free t.end next spells (subst (λ n. 0 < n) at.0 some)
-              (subst (λ n. IsFree tier (table_cells cells column tier n) next) at.0 read)
-              (ap (ends_at tier) now ∙ (ends_written tier head e len small ∙ ap (λ n. ends_bytes (record { free = next; end = n })) at.1))
-              (λ i. put_file head_file column (table_file column tier) i written cells (not_head column tier)) in
+          (table_cells (put_cell head_file column written cells) column tier) t.slot t.free t.end next spells (subst (λ n. 0 < n) at.0 some)
+          (subst (λ n. IsFree tier (table_cells cells column tier n) next) at.0 read)
+          (ap (ends_at tier) now ∙ (ends_written tier head e len small ∙ ap (λ n. ends_bytes (record { free = next; end = n })) at.1))
+          (λ i. put_file head_file column (table_file column tier) i written cells (not_head column tier)) in
           (at.0 ∙ step.0, step.1);
     }
 
@@ -228,8 +227,12 @@ freed_step cells column tier s head written cell free end small len is keeps f n
     record {
       only = only_on column tier cells mid _ (only_slot column tier s cell cells) (subst (OnlyTable column tier mid) to (only_head column tier mid head e small len (is ∙ sym (same_head column tier s cell cells))));
       head = subst IsHeadCell (sym now) (head_kept head tier e small len keeps within n);
-      ends = (end, has_end cells column tier head free end small is keeps f n said, has_end (put_cell head_file column written mid) column tier (head_cell (put_cell head_file column written mid) column) s end small refl
-          (subst IsHeadCell (sym now) (head_kept head tier e small len keeps within n)) (omega arith) n (ap (ends_at tier) now ∙ ends_written tier head e len small));
+      ends = (
+        end,
+        has_end cells column tier head free end small is keeps f n said,
+        has_end (put_cell head_file column written mid) column tier (head_cell (put_cell head_file column written mid) column) s end small refl
+            (subst IsHeadCell (sym now) (head_kept head tier e small len keeps within n)) (omega arith) n (ap (ends_at tier) now ∙ ends_written tier head e len small),
+      );
       others = λ i ne. slots i ∙ put_elsewhere column tier s i cell cells ne;
       table = λ t spells loose.
           let at = ends_are_read tier head (table_cells cells column tier) t free end (subst (λ h. SpellsTable tier h (table_cells cells column tier) t) (sym is) spells) f n said in

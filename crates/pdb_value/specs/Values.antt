@@ -18,8 +18,8 @@ abbrev pub IsValueAt : Content → ℕ → ℕ → ℕ → List ℕ → ℕ → 
 IsValueAt cells column tier slot key count value =
     IsWhole tier (table_cells cells column tier slot) key count value
     ⊎ ((tier ≡ parts_tier) × ((end : ℕ) × HasEnd cells column tier end × ((parts : List ℕ)
-        × IsHeadOfParts (table_cells cells column tier slot) key count (length value) (first parts) (take in_head value)
-        × AreParts end (table_cells cells column tier) parts (drop in_head value))))
+    × IsHeadOfParts (table_cells cells column tier slot) key count (length value) (first parts) (take in_head value)
+    × AreParts end (table_cells cells column tier) parts (drop in_head value))))
 
 -- a slot of a column's tier spells the first slot of a value with this key and count
 abbrev pub IsFirstAt : Content → ℕ → ℕ → ℕ → List ℕ → ℕ → Type 0

@@ -1,8 +1,7 @@
 ghost use Rattle.std.specs.Prelude.{◌≡◌};
 ghost use Rattle.pdb_value.specs.declared.fault.ValueFault.TheVariants.{Disk, OutOfMemory};
 
-use pdb_cells::CellFault;
-use pdb_cells::OutOfMemory as NoMemory;
+use pdb_cells::{CellFault, OutOfMemory as NoMemory};
 use std::alloc::AllocFailed;
 use thiserror::Error;
 

@@ -94,7 +94,7 @@ pub(crate) fn read_parts<C: Cells>(
     ensures len { OnOk result (length out.new.items ≡ length out.old.items + len) }
     ensures parts { (cells : Content) → C.seen c.old ≡ Some cells
         → OnOk result ((parts : List ℕ) × (bytes : List ℕ) × AreParts end (table_cells cells column parts_tier) parts bytes
-            × (first parts ≡ next) × (length bytes ≡ len) × (out.new.items ≡ out.old.items ++ bytes)) }
+        × (first parts ≡ next) × (length bytes ≡ len) × (out.new.items ≡ out.old.items ++ bytes)) }
     ensures faults { (cells : Content) → C.seen c.old ≡ Some cells
         → IfErr result (FaultSays (λ file cell. (left : ℕ) × (1 ≤ left) × (file ≡ table_file column parts_tier) × IsNoPart left end (cells file cell)) NoTier) }
     ensures sound { (cells : Content) (parts bytes : List ℕ) → C.seen c.old ≡ Some cells → AreParts end (table_cells cells column parts_tier) parts bytes

@@ -34,8 +34,8 @@ fn take_slots<C: Cells>(
         → IfOk result (λ slots. (after : Content) × Drafts d.new.puts (C.seen d.new.under.now) after × AreTaken column count cells after slots.items) }
     ensures faults { (cells : Content) → Drafts d.old.puts (C.seen d.old.under.now) cells
         → IfErr result (FaultSays (λ file cell. (after : Content) × Drafts d.new.puts (C.seen d.new.under.now) after
-            × BreaksFreeList column parts_tier after file cell)
-            (λ u. (after : Content) × Drafts d.new.puts (C.seen d.new.under.now) after × (u ≡ parts_tier) × IsFullTier after column parts_tier)) }
+        × BreaksFreeList column parts_tier after file cell)
+        (λ u. (after : Content) × Drafts d.new.puts (C.seen d.new.under.now) after × (u ≡ parts_tier) × IsFullTier after column parts_tier)) }
     ensures sound { (cells : Content) (t : Table) → Drafts d.old.puts (C.seen d.old.under.now) cells → IsHeadCell (head_cell cells column)
         → HasTable cells column parts_tier t → IfErr result (FaultSays NoCell (λ u. (u ≡ parts_tier) × (room_of t < count))) }
 {
@@ -102,14 +102,14 @@ fn place_whole<C: Cells>(
     ensures counted { CountsFault (is_disk result) (C.fault_count d.old.under.now) (C.fault_count d.new.under.now) }
     ensures only { (cells : Content) → Drafts d.old.puts (C.seen d.old.under.now) cells
         → OnOk result ((after : Content) × Drafts d.new.puts (C.seen d.new.under.now) after × OnlyTable column tier cells after
-            × IsHeadCell (head_cell after column)) }
+        × IsHeadCell (head_cell after column)) }
     ensures placed { (cells : Content) (t : Table) → Drafts d.old.puts (C.seen d.old.under.now) cells → HasTable cells column tier t
         → IfOk result (λ slot. (slot ≡ next_slot t.free t.end) × (slots_of (length bytes.now) ≤ room_of t)
-            × ((after : Content) × Drafts d.new.puts (C.seen d.new.under.now) after × HasTable after column tier (placed t key.now count bytes.now))) }
+        × ((after : Content) × Drafts d.new.puts (C.seen d.new.under.now) after × HasTable after column tier (placed t key.now count bytes.now))) }
     ensures faults { (cells : Content) → Drafts d.old.puts (C.seen d.old.under.now) cells
         → IfErr result (FaultSays (λ file cell. (after : Content) × Drafts d.new.puts (C.seen d.new.under.now) after
-            × BreaksFreeList column tier after file cell)
-            (λ u. (after : Content) × Drafts d.new.puts (C.seen d.new.under.now) after × (u ≡ tier) × IsFullTier after column tier)) }
+        × BreaksFreeList column tier after file cell)
+        (λ u. (after : Content) × Drafts d.new.puts (C.seen d.new.under.now) after × (u ≡ tier) × IsFullTier after column tier)) }
     ensures sound { (cells : Content) (t : Table) → Drafts d.old.puts (C.seen d.old.under.now) cells → IsHeadCell (head_cell cells column)
         → HasTable cells column tier t → IfErr result (FaultSays NoCell (λ u. (u ≡ tier) × (room_of t < slots_of (length bytes.now)))) }
 {
@@ -137,15 +137,15 @@ fn place_parts<C: Cells>(
     ensures counted { CountsFault (is_disk result) (C.fault_count d.old.under.now) (C.fault_count d.new.under.now) }
     ensures only { (cells : Content) → Drafts d.old.puts (C.seen d.old.under.now) cells
         → OnOk result ((after : Content) × Drafts d.new.puts (C.seen d.new.under.now) after × OnlyTable column parts_tier cells after
-            × IsHeadCell (head_cell after column)) }
+        × IsHeadCell (head_cell after column)) }
     ensures placed { (cells : Content) (t : Table) → Drafts d.old.puts (C.seen d.old.under.now) cells → HasTable cells column parts_tier t
         → IfOk result (λ slot. (slot ≡ next_slot t.free t.end) × (slots_of (length bytes.now) ≤ room_of t)
-            × ((after : Content) × Drafts d.new.puts (C.seen d.new.under.now) after
-                × HasTable after column parts_tier (placed t key.now count bytes.now))) }
+        × ((after : Content) × Drafts d.new.puts (C.seen d.new.under.now) after
+        × HasTable after column parts_tier (placed t key.now count bytes.now))) }
     ensures faults { (cells : Content) → Drafts d.old.puts (C.seen d.old.under.now) cells
         → IfErr result (FaultSays (λ file cell. (after : Content) × Drafts d.new.puts (C.seen d.new.under.now) after
-            × BreaksFreeList column parts_tier after file cell)
-            (λ u. (after : Content) × Drafts d.new.puts (C.seen d.new.under.now) after × (u ≡ parts_tier) × IsFullTier after column parts_tier)) }
+        × BreaksFreeList column parts_tier after file cell)
+        (λ u. (after : Content) × Drafts d.new.puts (C.seen d.new.under.now) after × (u ≡ parts_tier) × IsFullTier after column parts_tier)) }
     ensures sound { (cells : Content) (t : Table) → Drafts d.old.puts (C.seen d.old.under.now) cells → IsHeadCell (head_cell cells column)
         → HasTable cells column parts_tier t → IfErr result (FaultSays NoCell (λ u. (u ≡ parts_tier) × (room_of t < slots_of (length bytes.now)))) }
 {
@@ -184,16 +184,16 @@ pub fn place<C: Cells>(
     ensures tier { IfOk result (λ at. at.tier ≡ tier_of (length bytes.now)) }
     ensures only { (cells : Content) → Drafts d.old.puts (C.seen d.old.under.now) cells
         → IfOk result (λ at. (after : Content) × Drafts d.new.puts (C.seen d.new.under.now) after × OnlyTable column at.tier cells after
-            × IsHeadCell (head_cell after column)) }
+        × IsHeadCell (head_cell after column)) }
     ensures placed { (cells : Content) (t : Table) → Drafts d.old.puts (C.seen d.old.under.now) cells
         → HasTable cells column (tier_of (length bytes.now)) t
         → IfOk result (λ at. (at.slot ≡ next_slot t.free t.end) × (slots_of (length bytes.now) ≤ room_of t)
-            × ((after : Content) × Drafts d.new.puts (C.seen d.new.under.now) after × HasTable after column at.tier (placed t key.now count bytes.now))) }
+        × ((after : Content) × Drafts d.new.puts (C.seen d.new.under.now) after × HasTable after column at.tier (placed t key.now count bytes.now))) }
     ensures faults { (cells : Content) → Drafts d.old.puts (C.seen d.old.under.now) cells
         → IfErr result (FaultSays (λ file cell. (after : Content) × Drafts d.new.puts (C.seen d.new.under.now) after
-            × BreaksFreeList column (tier_of (length bytes.now)) after file cell)
-            (λ u. (after : Content) × Drafts d.new.puts (C.seen d.new.under.now) after × (u ≡ tier_of (length bytes.now))
-                × IsFullTier after column (tier_of (length bytes.now)))) }
+        × BreaksFreeList column (tier_of (length bytes.now)) after file cell)
+        (λ u. (after : Content) × Drafts d.new.puts (C.seen d.new.under.now) after × (u ≡ tier_of (length bytes.now))
+        × IsFullTier after column (tier_of (length bytes.now)))) }
     ensures sound { (cells : Content) (t : Table) → Drafts d.old.puts (C.seen d.old.under.now) cells → IsHeadCell (head_cell cells column)
         → HasTable cells column (tier_of (length bytes.now)) t
         → IfErr result (FaultSays NoCell (λ u. (u ≡ tier_of (length bytes.now)) × (room_of t < slots_of (length bytes.now)))) }

@@ -70,10 +70,10 @@ pub fn add_ref<C: Cells>(
     ensures counted { CountsFault (is_disk result) (C.fault_count d.old.under.now) (C.fault_count d.new.under.now) }
     ensures only { (cells : Content) → Drafts d.old.puts (C.seen d.old.under.now) cells
         → OnOk result ((after : Content) × Drafts d.new.puts (C.seen d.new.under.now) after × OnlyTable column at.tier cells after
-            × (head_cell after column ≡ head_cell cells column)) }
+        × (head_cell after column ≡ head_cell cells column)) }
     ensures added { (cells : Content) (t : Table) (h : Held) → Drafts d.old.puts (C.seen d.old.under.now) cells → HasTable cells column at.tier t
         → held (t.slot at.slot) ≡ Some h → IfOk result (λ n. (n ≡ count_up h.count)
-            × ((after : Content) × Drafts d.new.puts (C.seen d.new.under.now) after × HasTable after column at.tier (recounted t at.slot n))) }
+        × ((after : Content) × Drafts d.new.puts (C.seen d.new.under.now) after × HasTable after column at.tier (recounted t at.slot n))) }
     ensures left { OnErr result (d.new.puts ≡ d.old.puts) }
     ensures faults { (cells : Content) → Drafts d.old.puts (C.seen d.old.under.now) cells → IfErr result (FaultSays (BreaksValue cells column at.tier) NoTier) }
     ensures sound { (cells : Content) (t : Table) (h : Held) → Drafts d.old.puts (C.seen d.old.under.now) cells → IsHeadCell (head_cell cells column)
@@ -114,13 +114,13 @@ pub fn drop_ref<C: Cells>(
     ensures counted { CountsFault (is_disk result) (C.fault_count d.old.under.now) (C.fault_count d.new.under.now) }
     ensures only { (cells : Content) → Drafts d.old.puts (C.seen d.old.under.now) cells → IsUpToEnd cells column at.tier at.slot
         → OnOk result ((after : Content) × Drafts d.new.puts (C.seen d.new.under.now) after × OnlyTable column at.tier cells after
-            × IsHeadCell (head_cell after column)) }
+        × IsHeadCell (head_cell after column)) }
     ensures dropped { (cells : Content) (t : Table) (h : Held) → Drafts d.old.puts (C.seen d.old.under.now) cells → HasTable cells column at.tier t
         → held (t.slot at.slot) ≡ Some h → IfOk result (λ n. (n ≡ count_down h.count)
-            × ((after : Content) × Drafts d.new.puts (C.seen d.new.under.now) after × HasTable after column at.tier (with_fewer t at.slot n))) }
+        × ((after : Content) × Drafts d.new.puts (C.seen d.new.under.now) after × HasTable after column at.tier (with_fewer t at.slot n))) }
     ensures faults { (cells : Content) → Drafts d.old.puts (C.seen d.old.under.now) cells → IsUpToEnd cells column at.tier at.slot
         → IfErr result (FaultSays (λ file cell. (after : Content) × Drafts d.new.puts (C.seen d.new.under.now) after
-            × BreaksValue after column at.tier file cell) NoTier) }
+        × BreaksValue after column at.tier file cell) NoTier) }
     ensures sound { (cells : Content) (t : Table) (h : Held) → Drafts d.old.puts (C.seen d.old.under.now) cells → IsHeadCell (head_cell cells column)
         → HasTable cells column at.tier t → held (t.slot at.slot) ≡ Some h → IfErr result (FaultSays NoCell NoTier) }
 {
@@ -157,10 +157,10 @@ pub fn replace<C: Cells>(
     ensures nothing { IfOk result (λ done. IsFalse done → d.new.puts ≡ d.old.puts) }
     ensures only { (cells : Content) → Drafts d.old.puts (C.seen d.old.under.now) cells
         → OnOk result ((after : Content) × Drafts d.new.puts (C.seen d.new.under.now) after × OnlyTable column at.tier cells after
-            × (head_cell after column ≡ head_cell cells column)) }
+        × (head_cell after column ≡ head_cell cells column)) }
     ensures replaced { (cells : Content) (t : Table) (h : Held) → Drafts d.old.puts (C.seen d.old.under.now) cells → HasTable cells column at.tier t
         → held (t.slot at.slot) ≡ Some h → IfOk result (λ done. IsTrue done → (after : Content) × Drafts d.new.puts (C.seen d.new.under.now) after
-            × HasTable after column at.tier (holding t at.slot h.key h.count bytes.now)) }
+        × HasTable after column at.tier (holding t at.slot h.key h.count bytes.now)) }
     ensures left { OnErr result (d.new.puts ≡ d.old.puts) }
     ensures faults { (cells : Content) → Drafts d.old.puts (C.seen d.old.under.now) cells → IfErr result (FaultSays (BreaksValue cells column at.tier) NoTier) }
     ensures sound { (cells : Content) (t : Table) (h : Held) → Drafts d.old.puts (C.seen d.old.under.now) cells → IsHeadCell (head_cell cells column)

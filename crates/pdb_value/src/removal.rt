@@ -40,7 +40,7 @@ fn free_part<C: Cells>(
     ensures next { IfOk result (IsNextOf left end) }
     ensures freed { (cells : Content) → Drafts d.old.puts (C.seen d.old.under.now) cells → HasEnd cells column parts_tier end
         → IfOk result (λ next. (after : Content) × Drafts d.new.puts (C.seen d.new.under.now) after × IsFreed column parts_tier cells after slot
-            × ((bytes : List ℕ) × IsPart (table_cells cells column parts_tier slot) next bytes)) }
+        × ((bytes : List ℕ) × IsPart (table_cells cells column parts_tier slot) next bytes)) }
     ensures faults { (cells : Content) → Drafts d.old.puts (C.seen d.old.under.now) cells → HasEnd cells column parts_tier end
         → IfErr result (FaultSays (λ file cell. Drafts d.new.puts (C.seen d.new.under.now) cells × IsBrokenPart cells column slot left end file cell) NoTier) }
 {
@@ -66,14 +66,14 @@ pub(crate) fn free_parts<C: Cells>(
     ensures counted { CountsFault (is_disk result) (C.fault_count d.old.under.now) (C.fault_count d.new.under.now) }
     ensures only { (cells : Content) → Drafts d.old.puts (C.seen d.old.under.now) cells → HasEnd cells column parts_tier end
         → OnOk result ((after : Content) × Drafts d.new.puts (C.seen d.new.under.now) after × OnlyTable column parts_tier cells after
-            × HasEnd after column parts_tier end) }
+        × HasEnd after column parts_tier end) }
     ensures freed { (cells : Content) (t : Table) (parts bytes : List ℕ) → Drafts d.old.puts (C.seen d.old.under.now) cells
         → HasEnd cells column parts_tier end → HasTable cells column parts_tier t → AreParts end (table_cells cells column parts_tier) parts bytes
         → first parts ≡ next → length bytes ≡ len → AreLoose t parts
         → OnOk result ((after : Content) × Drafts d.new.puts (C.seen d.new.under.now) after × HasTable after column parts_tier (freed_all t parts)) }
     ensures faults { (cells : Content) → Drafts d.old.puts (C.seen d.old.under.now) cells → HasEnd cells column parts_tier end
         → IfErr result (FaultSays (λ file cell. (after : Content) × Drafts d.new.puts (C.seen d.new.under.now) after
-            × BreaksValue after column parts_tier file cell) NoTier) }
+        × BreaksValue after column parts_tier file cell) NoTier) }
     ensures sound { (cells : Content) (t : Table) (parts bytes : List ℕ) → Drafts d.old.puts (C.seen d.old.under.now) cells
         → HasEnd cells column parts_tier end → HasTable cells column parts_tier t → AreParts end (table_cells cells column parts_tier) parts bytes
         → first parts ≡ next → length bytes ≡ len → AreLoose t parts → IfErr result (FaultSays NoCell NoTier) }
@@ -105,13 +105,13 @@ pub(crate) fn free_value<C: Cells>(
     ensures counted { CountsFault (is_disk result) (C.fault_count d.old.under.now) (C.fault_count d.new.under.now) }
     ensures only { (cells : Content) → Drafts d.old.puts (C.seen d.old.under.now) cells → HasEnd cells column at.tier end → at.slot ≤ end
         → OnOk result ((after : Content) × Drafts d.new.puts (C.seen d.new.under.now) after × OnlyTable column at.tier cells after
-            × IsHeadCell (head_cell after column)) }
+        × IsHeadCell (head_cell after column)) }
     ensures removed { (cells : Content) (t : Table) (h : Held) → Drafts d.old.puts (C.seen d.old.under.now) cells → HasEnd cells column at.tier end
         → HasTable cells column at.tier t → held (t.slot at.slot) ≡ Some h → len ≡ length h.value → next ≡ first (parts_of (t.slot at.slot))
         → OnOk result ((after : Content) × Drafts d.new.puts (C.seen d.new.under.now) after × HasTable after column at.tier (removed t at.slot)) }
     ensures faults { (cells : Content) → Drafts d.old.puts (C.seen d.old.under.now) cells → HasEnd cells column at.tier end → at.slot ≤ end
         → IfErr result (FaultSays (λ file cell. (after : Content) × Drafts d.new.puts (C.seen d.new.under.now) after
-            × BreaksValue after column at.tier file cell) NoTier) }
+        × BreaksValue after column at.tier file cell) NoTier) }
     ensures sound { (cells : Content) (t : Table) (h : Held) → Drafts d.old.puts (C.seen d.old.under.now) cells → HasEnd cells column at.tier end
         → HasTable cells column at.tier t → held (t.slot at.slot) ≡ Some h → len ≡ length h.value → next ≡ first (parts_of (t.slot at.slot))
         → IfErr result (FaultSays NoCell NoTier) }

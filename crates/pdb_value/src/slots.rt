@@ -36,7 +36,7 @@ fn next_free<C: Cells>(
         → IfOk result (λ next. IsFree tier (table_cells cells column tier ends.free) next) }
     ensures faults { (cells : Content) → C.seen c.old ≡ Some cells
         → IfErr result (FaultSays (λ file cell. (file ≡ table_file column tier) × (cell ≡ ends.free)
-            × IsNotFree tier ends.end (table_cells cells column tier ends.free)) NoTier) }
+        × IsNotFree tier ends.end (table_cells cells column tier ends.free)) NoTier) }
 {
     let cell = read_slot(alloc, c, column, tier, ends.free)?;
     let damaged = damaged_slot(column, tier, ends.free);

@@ -144,9 +144,24 @@ fn slots_are_taken_from_the_free_list(rt: HostRuntime) -> Result<(), Fail> {
     let damaged = |file, cell| Err(ValueFault::Damaged { file, cell });
     for (free, end, slot, want) in [
         (0, [0; 4], [0; 12], Ok(at(0, 1))),
-        (2, [3, 0, 0, 0], [4, 0, 0, 0, 3, 0, 0, 0, 0, 0, 0, 0], Ok(at(0, 2))),
-        (2, [3, 0, 0, 0], [4, 0, 0, 0, 4, 0, 0, 0, 0, 0, 0, 0], damaged(18, 2)),
-        (2, [3, 0, 0, 0], [3, 0, 0, 0, 0, 0, 0, 0, 0, 0, 0, 0], damaged(18, 2)),
+        (
+            2,
+            [3, 0, 0, 0],
+            [4, 0, 0, 0, 3, 0, 0, 0, 0, 0, 0, 0],
+            Ok(at(0, 2)),
+        ),
+        (
+            2,
+            [3, 0, 0, 0],
+            [4, 0, 0, 0, 4, 0, 0, 0, 0, 0, 0, 0],
+            damaged(18, 2),
+        ),
+        (
+            2,
+            [3, 0, 0, 0],
+            [3, 0, 0, 0, 0, 0, 0, 0, 0, 0, 0, 0],
+            damaged(18, 2),
+        ),
         (4, [3, 0, 0, 0], [0; 12], damaged(9, 0)),
         (0, [254, 255, 255, 255], [0; 12], Ok(at(0, u32::MAX))),
         (0, [255; 4], [0; 12], Err(ValueFault::TierFull { tier: 0 })),
@@ -213,7 +228,10 @@ fn parts_are_freed_in_their_order(rt: HostRuntime) -> Result<(), Fail> {
     let ring = draft.put(CellName { file: 33, index: 8 }, &cell);
     let round = read_back(rt.alloc(), &mut draft, at(15, 9), &[2; 32], &mut out);
     draft.finish();
-    assert_eq!(rt; (first, left, second), (Ok(at(15, 1)), Ok(0), Ok(at(15, 9))));
+    assert_eq!(rt;
+        (first, left, second),
+        (Ok(at(15, 1)), Ok(0), Ok(at(15, 9)))
+    );
     assert_eq!(rt; read, Ok((true, Some(1))));
     assert_eq!(rt; (last, ring, there), (Ok(()), Ok(()), (3, 65, 0)));
     assert_eq!(rt; round, Err(ValueFault::Damaged { file: 33, cell: 8 }));

@@ -1,4 +1,4 @@
-use Rattle.std.proofs.Common.{rules, ◌≡◌, ◌<◌, ◌≤◌, ◌+◌, ◌-◌, ◌/◌, ◌++◌, ◌∷◌, [], ℕ, List, length, take, drop, min, refl, sym, ap, subst, ◌∙◌, arith, append_assoc, length-append, length-drop}
+use Rattle.std.proofs.Common.{◌≡◌, ◌+◌, ◌-◌, ◌++◌, ◌∷◌, [], ℕ, List, length, take, drop, refl, sym, ap, subst, ◌∙◌, arith, append_assoc, length-append, length-drop}
 use Rattle.std.proofs.lemmas.List.{append-nil}
 use Rattle.std.proofs.lemmas.Result.{err_from_is_err_and}
 use Rattle.pdb_model.specs.Breaks.{part_len}
@@ -6,9 +6,6 @@ use Rattle.pdb_model.specs.Files.{table_cells}
 use Rattle.pdb_model.specs.Slots.{IsPart}
 use Rattle.pdb_model.specs.Tables.{first}
 use Rattle.pdb_model.specs.Tiers.{in_part, parts_tier}
-use Rattle.pdb_value.specs.Values.{AreParts}
-use Rattle.pdb_value.specs.inner.Parts.{IsBrokenPart}
-use Rattle.pdb_value.proofs.Broken.{says_more}
 use Rattle.pdb_value.proofs.Chains.{has_part, one_fewer, part_added, part_sound, value_len, value_read}
 use Rattle.pdb_value.proofs.Layouts.{one_part}
 use Rattle.pdb_value.proofs.parts.read_parts.Goals as goal
@@ -48,7 +45,7 @@ loop-left-preserved g c = record {
       let n : length value ≡ part_len c.loop-left.left = value_len c.in_ok-part.part.cell.items c.loop-left.left c.in_ok-part.ensures.len in
       let m : length tail ≡ c.loop-left.left - length value = omega (arith, c.min-here.ensures) in
       let all = part_added c.args.end (table_cells cells c.args.column parts_tier) c.loop-left.slot c.in_ok-part.part.next rest value tail c.loop-left.left (omega arith)
-          (c.loop-left.invariant.some (omega arith)) c.loop-left.invariant.within part n m f are in
+      (c.loop-left.invariant.some (omega arith)) c.loop-left.invariant.within part n m f are in
       let b = c.loop-left.invariant.back cells (c.loop-left.slot ∷ rest) (value ++ tail) seen all refl (length-append value tail ∙ omega arith) in
       let wrote : c.extend_from_slice.new.self.items ≡ c.loop-left.out.items ++ value = c.in_ok-extend_from_slice.ensures.items ∙ ap (λ x. c.loop-left.out.items ++ x) (value_read c.in_ok-part.part.cell.items c.deref.result.now c.loop-left.left c.min-here.result c.deref.ensures.value (omega (arith, c.min-here.ensures))) in
       (b.0, b.1, b.2, b.3, b.4, b.5 ∙ (sym (append_assoc c.loop-left.out.items value tail) ∙ ap (λ x. x ++ tail) (sym wrote)));

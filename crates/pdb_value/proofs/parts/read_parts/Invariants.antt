@@ -1,4 +1,4 @@
-use Rattle.std.proofs.Common.{◌≡◌, ◌<◌, ◌≤◌, ◌+◌, ◌-◌, ◌/◌, ◌++◌, ℕ, List, Some, length}
+use Rattle.std.proofs.Common.{◌≡◌, ◌≤◌, ◌+◌, ◌/◌, ◌++◌, ℕ, List, Some, length}
 use Rattle.pdb_cells.specs.Content.{Content}
 use Rattle.pdb_model.specs.Files.{table_cells}
 use Rattle.pdb_model.specs.Tables.{first}
@@ -19,7 +19,7 @@ invariant-loop-left g l = record {
   back : (cells : Content) (rest tail : List ℕ) → g.C.Cells.seen l.initial.c ≡ Some cells → AreParts l.fn.end (table_cells cells l.fn.column parts_tier) rest tail
       → first rest ≡ l.slot → length tail ≡ l.left
       → (parts : List ℕ) × (bytes : List ℕ) × AreParts l.fn.end (table_cells cells l.fn.column parts_tier) parts bytes
-          × (first parts ≡ l.initial.slot) × (length bytes ≡ l.initial.left) × (l.initial.out.items ++ bytes ≡ l.out.items ++ tail);
+      × (first parts ≡ l.initial.slot) × (length bytes ≡ l.initial.left) × (l.initial.out.items ++ bytes ≡ l.out.items ++ tail);
   forth : (cells : Content) (parts bytes : List ℕ) → g.C.Cells.seen l.initial.c ≡ Some cells → AreParts l.fn.end (table_cells cells l.fn.column parts_tier) parts bytes
       → first parts ≡ l.initial.slot → length bytes ≡ l.initial.left
       → (rest : List ℕ) × (tail : List ℕ) × AreParts l.fn.end (table_cells cells l.fn.column parts_tier) rest tail × (first rest ≡ l.slot) × (length tail ≡ l.left);

@@ -1,4 +1,4 @@
-use Rattle.std.proofs.Common.{◌≡◌, ◌<◌, ◌≤◌, ◌+◌, ℕ, List, length, refl, sym, ap, subst, ◌∙◌, arith}
+use Rattle.std.proofs.Common.{◌≡◌, length, refl, sym, subst, ◌∙◌, arith}
 use Rattle.std.proofs.lemmas.Result.{err_from_is_err_and}
 use Rattle.pdb_cells.specs.Content.{Content}
 use Rattle.pdb_model.specs.Tables.{placed, room_of, slots_of}
@@ -16,7 +16,7 @@ returns-in_err-slot-2-clause-faults g c cells drafts =
     let last : parts_tier ≡ c.tier_for-tier.result = omega arith in
     let p = err_from_is_err_and c.from_residual-in_err-slot-2.result c.from_residual-in_err-slot-2.ensures.1 in
     rw (p.1, p.2) (tier_faults (λ (x : Content). Drafts c.place_parts.new.d.puts (g.C.Cells.seen c.place_parts.new.d.under.now) x) c.args.column parts_tier (tier_of (length c.args.bytes.now)) _ (last ∙ c.tier_for-tier.ensures.tier)
-        (c.in_err-slot-2.ensures.faults cells drafts))
+    (c.in_err-slot-2.ensures.faults cells drafts))
 
 pub returns-in_err-slot-2-clause-sound : goal.returns-in_err-slot-2-clause-sound
 returns-in_err-slot-2-clause-sound g c cells t drafts keeps spells =
@@ -24,7 +24,7 @@ returns-in_err-slot-2-clause-sound g c cells t drafts keeps spells =
     let all : parts_tier ≡ tier_of (length c.args.bytes.now) = last ∙ c.tier_for-tier.ensures.tier in
     let p = err_from_is_err_and c.from_residual-in_err-slot-2.result c.from_residual-in_err-slot-2.ensures.1 in
     rw (p.1, p.2) (tier_sound (room_of t) (slots_of (length c.args.bytes.now)) (slots_of (length c.args.bytes.now)) parts_tier (tier_of (length c.args.bytes.now)) _ all refl
-        (c.in_err-slot-2.ensures.sound cells t drafts keeps (subst (λ k. HasTable cells c.args.column k t) (sym all) spells)))
+    (c.in_err-slot-2.ensures.sound cells t drafts keeps (subst (λ k. HasTable cells c.args.column k t) (sym all) spells)))
 
 pub returns-clause-placed : goal.returns-clause-placed
 returns-clause-placed g c cells t drafts spells =

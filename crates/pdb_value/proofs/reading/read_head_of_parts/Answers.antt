@@ -1,7 +1,6 @@
-use Rattle.std.proofs.Common.{◌≡◌, ◌-◌, ◌+◌, ◌++◌, ◌<◌, ◌≤◌, ◌^◌, length, replicate, ℕ, List, arith, sym, ap, ◌∙◌, rules}
+use Rattle.std.proofs.Common.{◌≡◌, ◌++◌, ◌≤◌, arith, sym, ap, ◌∙◌}
 use Rattle.std.specs.Int.{w32, to_le_bytes}
-use Rattle.pdb_model.specs.Slots.{IsHeadOfParts}
-use Rattle.pdb_model.specs.Tiers.{slot_size, tier_of}
+use Rattle.pdb_model.specs.Tiers.{tier_of}
 use Rattle.pdb_value.proofs.Layouts.{head_fields, head_made, head_read, same_back, same_links}
 use Rattle.pdb_value.proofs.reading.read_head_of_parts.Goals as goal
 use Rattle.pdb_value.proofs.reading.read_head_of_parts.Goals.{then-first-ne2-via-then-first-ne2, then-first-ne2-via-else-first-ne2+then-first-ne4044, then-first-ne2-via-else-first-ne2+else-first-ne4044+then-first-eq0, then-whole-gt8388608-via-then-whole-gt8388608, then-whole-gt8388608-via-else-whole-gt8388608+then-tier_for-ne-PARTS_TIER}
@@ -24,7 +23,7 @@ returns-then-whole-gt8388608 c key count whole next value head =
     let tail = same_back c.split_at.result.0.now key c.split_at.result.1.now (to_le_bytes w32 whole ++ (to_le_bytes w32 next ++ value)) (omega (arith, head.counted.key_len)) (sym c.split_at.ensures.by_index.0 ∙ same.rest_is) in
     let most : whole ≤ 8388608 = head.not_too_long in
     let links = same_links c.read_u32-whole.result.0 whole c.read_u32-next.result.0 next c.read_u32-next.result.1.now value (omega arith) (omega arith) (omega arith) head.narrow
-        (ap (λ z. to_le_bytes w32 c.read_u32-whole.result.0 ++ z) (sym c.read_u32-next.ensures.parts) ∙ (sym c.read_u32-whole.ensures.parts ∙ tail)) in
+    (ap (λ z. to_le_bytes w32 c.read_u32-whole.result.0 ++ z) (sym c.read_u32-next.ensures.parts) ∙ (sym c.read_u32-whole.ensures.parts ∙ tail)) in
     elim c.then-whole-gt8388608.branch [
       | then-whole-gt8388608-via-then-whole-gt8388608 w ↦ omega (arith, links.whole_is, most)
       | then-whole-gt8388608-via-else-whole-gt8388608+then-tier_for-ne-PARTS_TIER w ↦

@@ -1,4 +1,4 @@
-use Rattle.std.proofs.Common.{◌≡◌, ◌<◌, ◌≤◌, ℕ, List, sym, ap, subst, ◌∙◌, refl, arith}
+use Rattle.std.proofs.Common.{ap, ◌∙◌, arith}
 use Rattle.std.proofs.lemmas.Result.{err_from_is_err_and}
 use Rattle.sdb_base.specs.Content.{count_up}
 use Rattle.pdb_value.proofs.Held.{agrees, first_sound}
@@ -18,5 +18,5 @@ pub returns-clause-added : goal.returns-clause-added
 returns-clause-added g c cells t h drafts spells holds =
     let step = c.in_ok-put_count.ensures.recounted cells (c.read_first.ensures.stays cells drafts) (c.in_ok-first.ensures.cell cells drafts) in
     let same = agrees cells c.args.column c.args.at.tier c.args.at.slot c.in_ok-first.first.end t h c.in_ok-first.first.cell.items c.in_ok-first.first.fields.key c.in_ok-first.first.fields.count
-        c.in_ok-first.first.fields.len c.in_ok-first.first.fields.next spells holds (c.in_ok-first.ensures.cell cells drafts) c.in_ok-first.ensures.first in
+    c.in_ok-first.first.fields.len c.in_ok-first.first.fields.next spells holds (c.in_ok-first.ensures.cell cells drafts) c.in_ok-first.ensures.first in
     (c.one_up-count.ensures.count ∙ ap count_up same.count_is, (step.0, step.1, step.2.table t h spells holds))

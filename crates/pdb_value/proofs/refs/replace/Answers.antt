@@ -1,4 +1,4 @@
-use Rattle.std.proofs.Common.{◌≡◌, ◌<◌, ◌≤◌, ℕ, List, sym, ap, subst, ◌∙◌, refl, arith}
+use Rattle.std.proofs.Common.{◌≡◌, ◌∙◌, arith}
 use Rattle.pdb_cells.specs.Content.{put_cell}
 use Rattle.pdb_model.specs.Files.{table_file}
 use Rattle.pdb_value.proofs.Held.{agrees}
@@ -17,7 +17,7 @@ returns-clause-only g c cells drafts = (
 pub returns-clause-replaced : goal.returns-clause-replaced
 returns-clause-replaced g c cells t h drafts spells holds done =
     let same = agrees cells c.args.column c.args.at.tier c.args.at.slot c.in_ok-fields.field-0.end t h c.in_ok-fields.field-0.cell.items c.in_ok-fields.field-0.fields.key c.in_ok-fields.field-0.fields.count c.in_ok-fields.field-0.fields.len c.in_ok-fields.field-0.fields.next spells holds
-        (c.in_ok-fields.ensures.cell cells drafts) c.in_ok-fields.ensures.first in
+    (c.in_ok-fields.ensures.cell cells drafts) c.in_ok-fields.ensures.first in
     let is : c.args.at.tier ≡ c.tier_for.result = omega arith in (
       put_cell (table_file c.args.column c.args.at.tier) c.args.at.slot c.deref.result.now cells,
       c.in_ok-put_slot.ensures.cells cells (c.read_first.ensures.stays cells drafts),

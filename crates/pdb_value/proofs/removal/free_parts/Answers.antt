@@ -1,4 +1,4 @@
-use Rattle.std.proofs.Common.{◌≡◌, ◌<◌, ◌≤◌, ℕ, List, sym, ap, subst, ◌∙◌, refl, arith}
+use Rattle.std.proofs.Common.{subst, ◌∙◌, arith}
 use Rattle.std.proofs.lemmas.Result.{err_from_is_err_and}
 use Rattle.pdb_cells.specs.Content.{Content}
 use Rattle.pdb_model.specs.Breaks.{HasEnd}
@@ -22,7 +22,7 @@ returns-in_err-slot-clause-faults g c cells drafts end =
     let at = c.loop-left.invariant.only cells drafts end in
     let p = err_from_is_err_and c.from_residual.result c.from_residual.ensures.1 in
     rw (p.1, p.2) (freed_broken (λ (x : Content). Drafts c.free_part.new.d.puts (g.C.Cells.seen c.free_part.new.d.under.now) x) at.0 c.args.column c.loop-left.slot c.loop-left.left c.args.end _ (omega arith) at.3
-        (c.in_err-slot.ensures.faults at.0 at.1 at.3))
+    (c.in_err-slot.ensures.faults at.0 at.1 at.3))
 
 pub returns-in_err-slot-clause-sound : goal.returns-in_err-slot-clause-sound
 returns-in_err-slot-clause-sound g c cells t parts bytes drafts end spells are f n loose =
@@ -30,7 +30,7 @@ returns-in_err-slot-clause-sound g c cells t parts bytes drafts end spells are f
     let has = has_part c.args.end (table_cells at.0 c.args.column parts_tier) c.loop-left.slot c.loop-left.left at.2.rest at.2.bytes at.2.are at.2.next at.2.long (omega arith) in
     let p = err_from_is_err_and c.from_residual.result c.from_residual.ensures.1 in
     rw (p.1, p.2) (freed_sound (Drafts c.free_part.new.d.puts (g.C.Cells.seen c.free_part.new.d.under.now) at.0) at.0 c.args.column c.loop-left.slot c.loop-left.left c.args.end at.2.rest at.2.bytes _ has
-        (c.in_err-slot.ensures.faults at.0 at.1 at.2.has_end))
+    (c.in_err-slot.ensures.faults at.0 at.1 at.2.has_end))
 
 pub loop-left-preserved : goal.loop-left-preserved
 loop-left-preserved g c = record {
@@ -40,9 +40,12 @@ loop-left-preserved g c = record {
   within = c.in_ok-slot.ensures.next.within;
   only = λ cells drafts end.
       let at = c.loop-left.invariant.only cells drafts end in
-      let step = c.in_ok-slot.ensures.freed at.0 at.1 at.3 in
-      (step.0, step.1, only_on c.args.column parts_tier cells at.0 step.0 at.2 step.2.only,
-          subst (HasEnd step.0 c.args.column parts_tier) (one_end at.0 c.args.column parts_tier step.2.ends.0 c.args.end (omega arith) step.2.ends.1 at.3) step.2.ends.2);
+      let step = c.in_ok-slot.ensures.freed at.0 at.1 at.3 in (
+        step.0,
+        step.1,
+        only_on c.args.column parts_tier cells at.0 step.0 at.2 step.2.only,
+        subst (HasEnd step.0 c.args.column parts_tier) (one_end at.0 c.args.column parts_tier step.2.ends.0 c.args.end (omega arith) step.2.ends.1 at.3) step.2.ends.2,
+      );
   freed = λ cells t parts bytes drafts end spells are f n loose.
       let at = c.loop-left.invariant.freed cells t parts bytes drafts end spells are f n loose in
       let step = c.in_ok-slot.ensures.freed at.0 at.1 at.2.has_end in

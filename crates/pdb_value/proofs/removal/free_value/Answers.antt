@@ -1,4 +1,4 @@
-use Rattle.std.proofs.Common.{◌≡◌, ◌<◌, ◌≤◌, ℕ, List, sym, ap, subst, ◌∙◌, refl, arith}
+use Rattle.std.proofs.Common.{sym, subst}
 use Rattle.std.proofs.lemmas.Result.{err_from_is_err_and}
 use Rattle.pdb_cells.specs.Content.{Content}
 use Rattle.pdb_model.specs.Breaks.{HasEnd}
@@ -47,7 +47,7 @@ returns-in_err-free_parts-clause-faults g c cells drafts has within =
     let end = end_then cells step.0 c.args.column c.args.at.tier c.args.at.slot c.args.end c.requires.tier has step.2 in
     let p = err_from_is_err_and c.from_residual-in_err-free_parts.result c.from_residual-in_err-free_parts.ensures.1 in
     rw (p.1, p.2) (of_tier (λ (x : Content). Drafts c.free_parts.new.d.puts (g.C.Cells.seen c.free_parts.new.d.under.now) x) c.args.column c.args.at.tier _ low
-        (c.in_err-free_parts.ensures.faults step.0 step.1 (subst (λ k. HasEnd step.0 c.args.column k c.args.end) low end)))
+    (c.in_err-free_parts.ensures.faults step.0 step.1 (subst (λ k. HasEnd step.0 c.args.column k c.args.end) low end)))
 
 pub returns-in_err-free_parts-clause-sound : goal.returns-in_err-free_parts-clause-sound
 returns-in_err-free_parts-clause-sound g c cells t h drafts has spells holds l n =

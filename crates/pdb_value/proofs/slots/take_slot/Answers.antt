@@ -1,9 +1,7 @@
-use Rattle.std.proofs.Common.{◌≡◌, ◌<◌, ◌≤◌, ◌+◌, ℕ, List, sym, ap, subst, ◌∙◌, refl, arith, inl, inr}
+use Rattle.std.proofs.Common.{refl, arith}
 use Rattle.std.proofs.lemmas.Result.{err_from_is_err_and}
-use Rattle.pdb_cells.specs.Content.{Content, put_cell}
+use Rattle.pdb_cells.specs.Content.{put_cell}
 use Rattle.pdb_cells.specs.Sizes.{head_file}
-use Rattle.pdb_model.specs.Files.{head_cell, table_cells}
-use Rattle.pdb_model.specs.Slots.{IsFree}
 use Rattle.pdb_value.proofs.Spelled.{took_end, took_first}
 use Rattle.pdb_value.proofs.Broken.{free_list_broken}
 use Rattle.pdb_value.proofs.Taken.{first_free, no_room, unbroken_head}
@@ -33,7 +31,7 @@ returns-in_err-free-clause-faults g c cells drafts =
     let is = c.in_ok-head.ensures.cell cells drafts in
     let p = err_from_is_err_and c.from_residual-in_err-free.result c.from_residual-in_err-free.ensures.1 in
     rw (p.1, p.2) (free_list_broken cells c.args.column c.args.tier c.in_ok-head.head c.ends_of-ends.result.free c.ends_of-ends.result.end _ _ (omega arith) is c.in_ok-head.ensures.head (omega arith) (omega arith)
-        c.ends_of-ends.ensures (c.in_err-free.ensures.faults cells (c.read_head.ensures.stays cells drafts)))
+    c.ends_of-ends.ensures (c.in_err-free.ensures.faults cells (c.read_head.ensures.stays cells drafts)))
 
 pub returns-in_err-head-clause-sound : goal.returns-in_err-head-clause-sound
 returns-in_err-head-clause-sound g c cells t drafts keeps spells =
@@ -48,4 +46,4 @@ pub returns-in_err-free-clause-sound : goal.returns-in_err-free-clause-sound
 returns-in_err-free-clause-sound g c cells t drafts keeps spells =
     let p = err_from_is_err_and c.from_residual-in_err-free.result c.from_residual-in_err-free.ensures.1 in
     rw (p.1, p.2) (first_free cells c.args.column c.args.tier c.in_ok-head.head c.ends_of-ends.result.free c.ends_of-ends.result.end t _ _ (c.in_ok-head.ensures.cell cells drafts) spells (omega arith) (omega arith) c.ends_of-ends.ensures (omega arith)
-        (c.in_err-free.ensures.faults cells (c.read_head.ensures.stays cells drafts)))
+    (c.in_err-free.ensures.faults cells (c.read_head.ensures.stays cells drafts)))

@@ -1,8 +1,8 @@
-use Rattle.std.proofs.Common.{rules, ◌≡◌, ◌≢◌, ◌≤◌, ◌-◌, ◌+◌, ◌/◌, ◌++◌, Bool, true, false, not, ℕ, List, [], length, take, drop, refl, sym, ap, subst, ◌∙◌, arith, inl, inr, append_assoc, length-append, length-drop}
+use Rattle.std.proofs.Common.{◌≡◌, ◌≤◌, ◌-◌, ◌+◌, ◌/◌, ◌++◌, true, false, not, length, take, drop, refl, sym, ap, subst, ◌∙◌, arith, length-drop}
 use Rattle.std.proofs.lemmas.Result.{err_from_is_err_and}
 use Rattle.std.proofs.lemmas.List.{take_rest}
 use Rattle.std.proofs.lemmas.Slice.Eq.{bytes_eq-Decides}
-use Rattle.pdb_model.specs.Tables.{Held, slots_of}
+use Rattle.pdb_model.specs.Tables.{slots_of}
 use Rattle.pdb_model.specs.Tiers.{slot_size}
 use Rattle.pdb_value.proofs.FirstSlots.{broken_part, first_at, not_no, parts_at, slots_long, whole_at}
 use Rattle.pdb_value.proofs.Held.{agrees, first_sound, parts_there, value_is}
@@ -41,9 +41,9 @@ returns-then-at-lt-PARTS_TIER-clause-answer g c cells seen = (
 pub returns-then-at-lt-PARTS_TIER-clause-held : goal.returns-then-at-lt-PARTS_TIER-clause-held
 returns-then-at-lt-PARTS_TIER-clause-held g c cells t h seen spells holds =
     let is = value_is cells c.args.column c.args.at.tier c.args.at.slot t h c.args.key.now c.in_ok-first.first.fields.count c.extend_from_slice.new.self.items spells holds (whole_at cells c.args.column c.args.at.tier c.args.at.slot c.in_ok-first.first.end c.in_ok-first.first.fields.len c.in_ok-first.first.fields.next c.in_ok-first.first.fields.count
-      (44 + c.in_ok-first.first.fields.len - 44) c.in_ok-first.first.cell.items c.in_ok-first.first.fields.key c.args.key.now c.deref.result.now c.extend_from_slice.new.self.items
-      c.if-at-lt-PARTS_TIER.true c.in_ok-first.ensures.first (c.in_ok-first.ensures.cell cells seen) c.deref.ensures.value (omega arith)
-      ((bytes_eq-Decides c.in_ok-first.first.fields.key c.args.key.now).0 (not_no _ (sym c.ne.ensures ∙ c.if-ne.false))) (c.in_ok-extend_from_slice.ensures.items ∙ ap (λ x. x ++ take (44 + c.in_ok-first.first.fields.len - 44) (drop 44 c.deref.result.now)) (c.reserve.ensures.items ∙ c.clear.ensures.items))) in
+    (44 + c.in_ok-first.first.fields.len - 44) c.in_ok-first.first.cell.items c.in_ok-first.first.fields.key c.args.key.now c.deref.result.now c.extend_from_slice.new.self.items
+    c.if-at-lt-PARTS_TIER.true c.in_ok-first.ensures.first (c.in_ok-first.ensures.cell cells seen) c.deref.ensures.value (omega arith)
+    ((bytes_eq-Decides c.in_ok-first.first.fields.key c.args.key.now).0 (not_no _ (sym c.ne.ensures ∙ c.if-ne.false))) (c.in_ok-extend_from_slice.ensures.items ∙ ap (λ x. x ++ take (44 + c.in_ok-first.first.fields.len - 44) (drop 44 c.deref.result.now)) (c.reserve.ensures.items ∙ c.clear.ensures.items))) in
     (is.0, sym is.1)
 
 pub returns-in_err-read_parts-clause-faults : goal.returns-in_err-read_parts-clause-faults
@@ -65,7 +65,7 @@ returns-clause-answer g c cells seen =
     let read = c.in_ok-read_parts.ensures.parts cells (c.read_first.ensures.stays cells seen) in
     let start : c.extend_from_slice-2.new.self.items ≡ drop 52 c.deref-2.result.now = c.in_ok-extend_from_slice-2.ensures.items ∙ (ap (λ x. x ++ take (length c.deref-2.result.now - 52) (drop 52 c.deref-2.result.now)) (c.reserve.ensures.items ∙ c.clear.ensures.items) ∙ take_rest c.deref-2.result.now 52) in
     let it = parts_at cells c.args.column c.args.at.tier c.args.at.slot c.in_ok-first.first.end c.in_ok-first.first.fields.len c.in_ok-first.first.fields.next c.in_ok-first.first.fields.count c.in_ok-first.first.cell.items c.in_ok-first.first.fields.key c.args.key.now c.deref-2.result.now c.read_parts.new.out.items read.0 read.1 low
-        c.in_ok-first.ensures.first end (c.in_ok-first.ensures.cell cells seen) c.deref-2.ensures.value ((bytes_eq-Decides c.in_ok-first.first.fields.key c.args.key.now).0 (not_no _ (sym c.ne.ensures ∙ c.if-ne.false))) read.2 read.3 read.4 (read.5 ∙ ap (λ x. x ++ read.1) start) in
+    c.in_ok-first.ensures.first end (c.in_ok-first.ensures.cell cells seen) c.deref-2.ensures.value ((bytes_eq-Decides c.in_ok-first.first.fields.key c.args.key.now).0 (not_no _ (sym c.ne.ensures ∙ c.if-ne.false))) read.2 read.3 read.4 (read.5 ∙ ap (λ x. x ++ read.1) start) in
     (c.in_ok-first.first.fields.count, it)
 
 pub returns-clause-held : goal.returns-clause-held
@@ -75,7 +75,7 @@ returns-clause-held g c cells t h seen spells holds =
     let read = c.in_ok-read_parts.ensures.parts cells (c.read_first.ensures.stays cells seen) in
     let start : c.extend_from_slice-2.new.self.items ≡ drop 52 c.deref-2.result.now = c.in_ok-extend_from_slice-2.ensures.items ∙ (ap (λ x. x ++ take (length c.deref-2.result.now - 52) (drop 52 c.deref-2.result.now)) (c.reserve.ensures.items ∙ c.clear.ensures.items) ∙ take_rest c.deref-2.result.now 52) in
     let it = parts_at cells c.args.column c.args.at.tier c.args.at.slot c.in_ok-first.first.end c.in_ok-first.first.fields.len c.in_ok-first.first.fields.next c.in_ok-first.first.fields.count c.in_ok-first.first.cell.items c.in_ok-first.first.fields.key c.args.key.now c.deref-2.result.now c.read_parts.new.out.items read.0 read.1 low
-        c.in_ok-first.ensures.first end (c.in_ok-first.ensures.cell cells seen) c.deref-2.ensures.value ((bytes_eq-Decides c.in_ok-first.first.fields.key c.args.key.now).0 (not_no _ (sym c.ne.ensures ∙ c.if-ne.false))) read.2 read.3 read.4 (read.5 ∙ ap (λ x. x ++ read.1) start) in
+    c.in_ok-first.ensures.first end (c.in_ok-first.ensures.cell cells seen) c.deref-2.ensures.value ((bytes_eq-Decides c.in_ok-first.first.fields.key c.args.key.now).0 (not_no _ (sym c.ne.ensures ∙ c.if-ne.false))) read.2 read.3 read.4 (read.5 ∙ ap (λ x. x ++ read.1) start) in
     let is = value_is cells c.args.column c.args.at.tier c.args.at.slot t h c.args.key.now c.in_ok-first.first.fields.count c.read_parts.new.out.items spells holds it in
     (is.0, sym is.1)
 
