@@ -1,13 +1,12 @@
 -- The cells that a fault names break the rules.
-use Rattle.std.proofs.Common.{◌≡◌, ◌<◌, ◌≤◌, ◌^◌, ◌⊎◌, ℕ, List, sym, ap, subst, ◌∙◌, refl, arith, inl, inr}
+use Rattle.std.proofs.Common.{◌≡◌, ◌<◌, ◌^◌, ℕ, List, sym, ap, subst, ◌∙◌, arith, inr}
 use Rattle.pdb_cells.specs.Content.{Content}
 use Rattle.pdb_model.specs.Breaks.{HasEnd, IsNotFree}
 use Rattle.pdb_model.specs.Files.{head_cell, table_cells, table_file}
 use Rattle.pdb_model.specs.Heads.{Ends, IsHeadCell, ends_at, ends_bytes}
-use Rattle.pdb_model.specs.Slots.{IsFree}
 use Rattle.pdb_value.specs.declared.fault.ValueFault.{ValueFault}
 use Rattle.pdb_value.specs.declared.fault.ValueFault.TheVariants.{Damaged, Disk, OutOfMemory, TierFull}
-use Rattle.pdb_value.specs.Faults.{BreaksFreeList, FaultSays, NoCell, NoTier}
+use Rattle.pdb_value.specs.Faults.{BreaksFreeList, FaultSays, NoTier}
 use Rattle.pdb_value.proofs.HeadCells.{said_is}
 
 -- a fault says more of the same cells

@@ -1,11 +1,11 @@
 -- What is read of a value's first slot.
-use Rattle.std.proofs.Common.{◌≡◌, ◌≢◌, ◌⊎◌, ◌+◌, ◌-◌, ◌*◌, ◌/◌, ◌^◌, ◌<◌, ◌≤◌, ◌++◌, ◌==◌, if◌then◌else◌, Bool, true, false, not, ℕ, List, [], ◌∷◌, length, take, drop, replicate, min, refl, sym, ap, subst, ◌∙◌, arith, inl, inr, length-append}
+use Rattle.std.proofs.Common.{◌≡◌, ◌+◌, ◌-◌, ◌/◌, ◌<◌, ◌≤◌, ◌++◌, ◌==◌, if◌then◌else◌, Bool, true, false, not, ℕ, List, length, take, drop, replicate, refl, sym, ap, subst, ◌∙◌, arith, inl, inr, length-append}
 use Rattle.std.specs.Int.{w32, to_le_bytes}
 use Rattle.std.proofs.Math.Seq.{take-append_seam, drop-append_seam}
 use Rattle.std.proofs.lemmas.List.{drop-drop}
 use Rattle.pdb_cells.specs.Content.{Content}
 use Rattle.pdb_model.specs.Breaks.{HasEnd, IsNoPart}
-use Rattle.pdb_model.specs.Files.{head_cell, table_cells, table_file}
+use Rattle.pdb_model.specs.Files.{table_cells, table_file}
 use Rattle.pdb_model.specs.Slots.{IsHeadOfParts, IsWhole}
 use Rattle.pdb_model.specs.Tables.{first, part_count, slots_of}
 use Rattle.pdb_model.specs.Tiers.{in_head, parts_tier, slot_size, tier_of}

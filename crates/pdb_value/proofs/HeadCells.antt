@@ -1,10 +1,9 @@
 -- Head cells: what is read of them, and what a write of a tier's ends leaves.
-use Rattle.std.proofs.Common.{◌≡◌, ◌≢◌, ◌+◌, ◌-◌, ◌*◌, ◌^◌, ◌<◌, ◌≤◌, ℕ, List, [], ◌∷◌, ◌++◌, length, take, drop, replicate, refl, sym, ap, subst, ◌∙◌, arith}
+use Rattle.std.proofs.Common.{◌≡◌, ◌^◌, ◌<◌, ◌≤◌, ℕ, List, [], ◌∷◌, length, take, drop, replicate, sym, ap, subst, ◌∙◌, arith}
 use Rattle.std.specs.Int.{w32, from_le_bytes}
 use Rattle.std.proofs.lemmas.Nat.{from_le_bytes-to_le_bytes_4}
-use Rattle.std.proofs.lemmas.List.{length-drop}
-use Rattle.pdb_model.specs.Heads.{Ends, Head, IsHead, IsHeadCell, SpellsHead, ends_at, ends_bytes, ends_place}
-use Rattle.pdb_value.specs.inner.HeadCells.{AreBits, KeepsEnds, ends_said, with_ends}
+use Rattle.pdb_model.specs.Heads.{Ends, IsHeadCell, ends_at, ends_bytes}
+use Rattle.pdb_value.specs.inner.HeadCells.{AreBits, KeepsEnds, ends_said}
 
 pub said_is : (head : List ℕ) (tier : ℕ) (e : Ends) → e.free < 2 ^ 32 → e.end < 2 ^ 32 → ends_at tier head ≡ ends_bytes e → ends_said tier head ≡ e
 said_is head tier e f n q =

@@ -1,14 +1,14 @@
 -- What a table's slot that holds a value says of the cells.
-use Rattle.std.proofs.Common.{◌≡◌, ◌≢◌, ◌⊎◌, ◌+◌, ◌-◌, ◌*◌, ◌/◌, ◌^◌, ◌<◌, ◌≤◌, ◌==◌, ℕ, zero, suc, List, [], ◌∷◌, ◌++◌, Option, Some, None, length, take, drop, min, refl, sym, ap, subst, ◌∙◌, arith, inl, inr, length-drop}
-use Rattle.std.proofs.lemmas.List.{drop-drop, length-take, nil_from_length, take-append-drop}
-use Rattle.std.specs.Prelude.{slice_get, slice_index}
+use Rattle.std.proofs.Common.{◌≡◌, ◌⊎◌, ◌+◌, ◌-◌, ◌*◌, ◌/◌, ◌<◌, ◌≤◌, ℕ, List, [], ◌∷◌, ◌++◌, Some, length, take, drop, refl, sym, ap, subst, ◌∙◌, arith, inl, inr, length-drop}
+use Rattle.std.proofs.lemmas.List.{drop-drop, nil_from_length, take-append-drop}
+use Rattle.std.specs.Prelude.{slice_index}
 use Rattle.pdb_cells.specs.Content.{Content}
-use Rattle.pdb_model.specs.Breaks.{HasEnd, IsNoValue}
+use Rattle.pdb_model.specs.Breaks.{HasEnd}
 use Rattle.pdb_model.specs.Files.{head_cell, table_cells}
-use Rattle.pdb_model.specs.Heads.{Ends, IsHeadCell}
+use Rattle.pdb_model.specs.Heads.{IsHeadCell}
 use Rattle.pdb_model.specs.Slots.{IsHeadOfParts, IsPart, IsWhole}
-use Rattle.pdb_model.specs.Tables.{Slot, Whole, Parted, Part, Free, Loose, Outside, Table, Held, IsTable, IsSlot, SpellsTable, after, bytes_of_part, first, held, part_count, parts_of}
-use Rattle.pdb_model.specs.Tiers.{in_head, in_part, parts_tier, tier_of}
+use Rattle.pdb_model.specs.Tables.{Slot, Whole, Parted, Part, Free, Loose, Outside, Table, Held, IsSlot, SpellsTable, after, bytes_of_part, first, held, parts_of}
+use Rattle.pdb_model.specs.Tiers.{in_head, in_part, parts_tier}
 use Rattle.pdb_value.specs.Faults.{FaultSays, HasTable, NoCell, NoTier}
 use Rattle.pdb_value.specs.Values.{AreFurtherParts, IsValueAt}
 use Rattle.pdb_value.proofs.Chains.{same_parts}

@@ -1,11 +1,11 @@
 -- What the readers of slots find is what a layout says.
-use Rattle.std.proofs.Common.{◌≡◌, ◌+◌, ◌-◌, ◌*◌, ◌^◌, ◌<◌, ◌≤◌, ℕ, List, [], ◌∷◌, ◌++◌, length, take, drop, replicate, refl, sym, ap, ◌∙◌, arith, subst, append_assoc, length-append}
+use Rattle.std.proofs.Common.{◌≡◌, ◌+◌, ◌-◌, ◌^◌, ◌<◌, ◌≤◌, ℕ, List, ◌++◌, length, take, drop, replicate, refl, sym, ap, ◌∙◌, arith, append_assoc, length-append}
 use Rattle.std.specs.Int.{w16, w32, w64, to_le_bytes, from_le_bytes}
 use Rattle.std.proofs.lemmas.Nat.{from_le_bytes-to_le_bytes_2, from_le_bytes-to_le_bytes_4, from_le_bytes-to_le_bytes_8}
 use Rattle.std.proofs.lemmas.List.{length-replicate}
 use Rattle.std.proofs.Math.Seq.{take-append_seam, drop-append_seam}
-use Rattle.pdb_model.specs.Slots.{IsCounted, IsFree, IsHeadOfParts, IsPart, IsWhole, free_bytes, head_bytes, padded, part_bytes, whole_bytes}
-use Rattle.pdb_model.specs.Tiers.{before_value, in_head, in_part, most_stored, parts_tier, slot_size, tier_of}
+use Rattle.pdb_model.specs.Slots.{IsFree, IsHeadOfParts, IsPart, IsWhole, free_bytes, head_bytes, padded, part_bytes, whole_bytes}
+use Rattle.pdb_model.specs.Tiers.{in_head, parts_tier, slot_size, tier_of}
 use Rattle.pdb_value.specs.inner.Fields.{counted_bytes, linked_bytes}
 
 -- ---- two parts of one list, cut at one place

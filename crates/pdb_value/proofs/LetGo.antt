@@ -1,19 +1,19 @@
 -- What freeing a value's first slot leaves to be freed.
-use Rattle.std.proofs.Common.{◌≡◌, ◌≢◌, ◌⊎◌, ◌+◌, ◌-◌, ◌<◌, ◌≤◌, ℕ, List, [], ◌∷◌, Option, Some, None, length, take, drop, refl, sym, ap, subst, ◌∙◌, arith, inl, inr, length-drop}
+use Rattle.std.proofs.Common.{◌≡◌, ◌-◌, ◌≤◌, ℕ, List, ◌∷◌, Some, length, drop, sym, ap, subst, ◌∙◌, arith, inl, inr, length-drop}
 use Rattle.pdb_cells.specs.Content.{Content}
 use Rattle.pdb_model.specs.Breaks.{HasEnd, IsBrokenHead}
-use Rattle.pdb_model.specs.Files.{OnlyTable, head_cell, table_cells}
+use Rattle.pdb_model.specs.Files.{head_cell, table_cells}
 use Rattle.pdb_model.specs.Heads.{IsHeadCell}
-use Rattle.pdb_model.specs.Tables.{Loose, Table, Held, first, freed, freed_all, held, parts_of, removed}
+use Rattle.pdb_model.specs.Tables.{Table, Held, first, freed, freed_all, held, parts_of, removed}
 use Rattle.pdb_model.specs.Tiers.{in_head, parts_tier}
-use Rattle.pdb_value.specs.Faults.{FaultSays, HasTable, NoCell, NoTier}
+use Rattle.pdb_value.specs.Faults.{FaultSays, HasTable, NoTier}
 use Rattle.pdb_value.specs.Values.{AreFurtherParts, BreaksValue}
 use Rattle.pdb_value.specs.declared.fault.ValueFault.{ValueFault}
 use Rattle.pdb_value.specs.declared.fault.ValueFault.TheVariants.{Damaged, Disk, OutOfMemory, TierFull}
 use Rattle.pdb_value.specs.inner.Loose.{AreLoose, loosened}
 use Rattle.pdb_value.specs.inner.Steps.{IsFreed}
 use Rattle.pdb_model.specs.Tables.{after}
-use Rattle.pdb_value.proofs.Broken.{end_keeps, one_end}
+use Rattle.pdb_value.proofs.Broken.{one_end}
 use Rattle.pdb_value.proofs.Sound.{used_by}
 use Rattle.pdb_value.proofs.Held.{end_is, held_head, held_is, held_whole, parts_held}
 use Rattle.pdb_value.proofs.Loosened.{chain_kept, held_value, here_loose, loose_kept, loosened_spelled, parts_loose, removed_is}

@@ -1,11 +1,11 @@
 -- A value is let go, and its slots are freed.
-use Rattle.std.proofs.Common.{◌≡◌, ◌≢◌, ◌⊎◌, ◌+◌, ◌-◌, ◌*◌, ◌^◌, ◌<◌, ◌≤◌, ◌==◌, Bool, true, false, if◌then◌else◌, ℕ, zero, suc, List, [], ◌∷◌, Option, Some, None, length, take, drop, min, refl, sym, ap, subst, ◌∙◌, arith, inl, inr, length-drop}
+use Rattle.std.proofs.Common.{◌≡◌, ◌≢◌, ◌+◌, ◌-◌, ◌≤◌, ◌==◌, Bool, true, false, if◌then◌else◌, ℕ, zero, suc, List, [], ◌∷◌, Some, length, take, drop, min, refl, sym, ap, subst, ◌∙◌, arith, inl, inr, length-drop}
 use Rattle.std.specs.Prelude.{slice_get, slice_index}
 use Rattle.pdb_cells.specs.Content.{Content}
 use Rattle.pdb_model.specs.Breaks.{HasEnd, IsNoPart}
-use Rattle.pdb_model.specs.Files.{OnlyTable, head_cell, table_cells}
+use Rattle.pdb_model.specs.Files.{table_cells}
 use Rattle.pdb_model.specs.Slots.{IsPart}
-use Rattle.pdb_model.specs.Tables.{Slot, Whole, Parted, Part, Free, Loose, Outside, Table, Held, IsTable, IsSlot, Lists, SpellsTable, after, bytes_of_part, first, freed, freed_all, held, parts_of, removed, times, times_free, with_slot}
+use Rattle.pdb_model.specs.Tables.{Slot, Whole, Parted, Part, Free, Loose, Outside, Table, Held, IsTable, IsSlot, Lists, SpellsTable, after, bytes_of_part, first, freed, freed_all, held, parts_of, removed, times, times_free}
 use Rattle.pdb_model.specs.Tiers.{in_part, parts_tier}
 use Rattle.pdb_value.specs.Faults.{FaultSays, HasTable, NoCell, NoTier}
 use Rattle.pdb_value.specs.declared.fault.ValueFault.{ValueFault}

@@ -1,5 +1,5 @@
 -- A value in parts is placed in slots that were taken for it.
-use Rattle.std.proofs.Common.{◌≡◌, ◌≢◌, ◌⊎◌, ◌+◌, ◌-◌, ◌*◌, ◌/◌, ◌^◌, ◌<◌, ◌≤◌, ◌==◌, Bool, true, false, if◌then◌else◌, ℕ, zero, suc, List, [], ◌∷◌, Option, Some, None, length, take, drop, get_or, refl, sym, ap, subst, ◌∙◌, arith, inl, inr, length-drop}
+use Rattle.std.proofs.Common.{◌≡◌, ◌+◌, ◌-◌, ◌*◌, ◌/◌, ◌^◌, ◌<◌, ◌≤◌, ◌==◌, if◌then◌else◌, ℕ, zero, suc, List, [], ◌∷◌, Some, length, take, drop, get_or, refl, sym, ap, subst, ◌∙◌, arith, inl, inr, length-drop}
 use Rattle.std.proofs.lemmas.Bool.Decides.{eqb_tells}
 use Rattle.std.specs.List.{position}
 use Rattle.std.specs.Prelude.{slice_get, slice_index}
@@ -15,11 +15,11 @@ use Rattle.pdb_value.proofs.Spelled.{only_on, only_slot, put_elsewhere, put_ther
 use Rattle.pdb_model.specs.Files.{head_cell, table_cells, table_file}
 use Rattle.pdb_model.specs.Heads.{ends_at}
 use Rattle.pdb_model.specs.Slots.{IsHeadOfParts, IsPart, head_bytes, padded, part_bytes}
-use Rattle.pdb_model.specs.Tables.{Slot, Whole, Parted, Part, Free, Loose, Outside, Table, IsTable, IsSlot, Lists, SpellsTable, after, bytes_of_part, first, holding, holding_parts, next_slot, part_at, part_count, placed, placed_in, room_of, slots_of, slots_taken, taken, taken_many, times, times_free, with_slot}
+use Rattle.pdb_model.specs.Tables.{Slot, Parted, Part, Loose, Outside, Table, IsTable, IsSlot, Lists, SpellsTable, after, bytes_of_part, first, holding, holding_parts, next_slot, part_at, part_count, placed, placed_in, room_of, slots_of, slots_taken, taken, taken_many, times, times_free, with_slot}
 use Rattle.pdb_model.specs.Tiers.{in_head, in_part, parts_tier, slot_size, tier_of}
 use Rattle.pdb_value.specs.inner.Loose.{AreLoose}
 use Rattle.pdb_value.proofs.Loosened.{differs}
-use Rattle.pdb_value.proofs.Places.{At, Nowhere, Stands, stands}
+use Rattle.pdb_value.proofs.Places.{At, Nowhere, stands}
 use Rattle.pdb_value.proofs.Sound.{here, same_or, table, take_sound, there}
 
 -- a slot on a list of loose ones is loose, and another than one that isn't there

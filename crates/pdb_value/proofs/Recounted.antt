@@ -1,18 +1,17 @@
 -- A value gets another count.
-use Rattle.std.proofs.Common.{◌≡◌, ◌≢◌, ◌⊎◌, ◌+◌, ◌-◌, ◌*◌, ◌^◌, ◌<◌, ◌≤◌, ◌==◌, Bool, true, false, if◌then◌else◌, ℕ, List, [], ◌∷◌, ◌++◌, Some, length, take, replicate, refl, sym, ap, subst, ◌∙◌, arith, inl, inr}
-use Rattle.std.specs.Prelude.{slice_get, slice_index}
-use Rattle.std.specs.Int.{w32, to_le_bytes}
+use Rattle.std.proofs.Common.{◌≡◌, ◌+◌, ◌^◌, ◌<◌, ◌≤◌, if◌then◌else◌, ℕ, List, Some, length, take, refl, sym, ap, subst, ◌∙◌, arith, inl, inr}
+use Rattle.std.specs.Prelude.{slice_index}
 use Rattle.pdb_cells.specs.Content.{Content, put_cell}
-use Rattle.pdb_model.specs.Files.{head_cell, table_cells, table_file}
+use Rattle.pdb_model.specs.Files.{table_cells, table_file}
 use Rattle.pdb_model.specs.Heads.{ends_at}
 use Rattle.pdb_model.specs.Slots.{IsHeadOfParts, IsWhole, padded, whole_bytes}
-use Rattle.pdb_model.specs.Tables.{Slot, Whole, Parted, Part, Free, Loose, Outside, Table, Held, IsTable, IsSlot, Lists, SpellsTable, after, bytes_of_part, first, held, holding, part_count, recounted, times, times_free, with_count, with_slot}
-use Rattle.pdb_model.specs.Tiers.{in_head, parts_tier, slot_size, tier_of}
+use Rattle.pdb_model.specs.Tables.{Slot, Whole, Parted, Part, Free, Loose, Outside, Table, Held, IsTable, IsSlot, Lists, after, bytes_of_part, first, held, holding, part_count, recounted, times, times_free, with_count, with_slot}
+use Rattle.pdb_model.specs.Tiers.{in_head, slot_size, tier_of}
 use Rattle.pdb_value.specs.Faults.{HasTable}
 use Rattle.pdb_value.specs.inner.Fields.{counted_bytes}
 use Rattle.pdb_value.proofs.Held.{held_head, held_is, held_whole}
 use Rattle.pdb_value.proofs.Layouts.{head_fields, whole_fields}
-use Rattle.pdb_value.proofs.Sound.{elsewhere, same_or, there, whole_used}
+use Rattle.pdb_value.proofs.Sound.{same_or, whole_used}
 use Rattle.pdb_value.proofs.Spelled.{hold_spelled, put_elsewhere, put_there, same_head}
 
 free_same : (x : Slot) (n : ℕ) → times_free x ≡ times_free (with_count x n)

@@ -1,9 +1,8 @@
 -- The steps keep a table's consistency.
-use Rattle.std.proofs.Common.{◌≡◌, ◌≢◌, ◌⊎◌, ◌+◌, ◌-◌, ◌*◌, ◌^◌, ◌<◌, ◌≤◌, ◌==◌, Bool, true, false, if◌then◌else◌, ℕ, List, [], ◌∷◌, Some, length, refl, sym, ap, subst, ◌∙◌, arith, inl, inr, zero-add}
+use Rattle.std.proofs.Common.{◌≡◌, ◌+◌, ◌^◌, ◌<◌, ◌≤◌, ◌==◌, Bool, true, false, if◌then◌else◌, ℕ, List, [], ◌∷◌, refl, sym, ap, subst, ◌∙◌, arith, inl, inr, zero-add}
 use Rattle.std.proofs.lemmas.Bool.Decides.{eqb_tells}
 use Rattle.std.proofs.lemmas.Bool.{cases_lt}
-use Rattle.std.specs.Prelude.{slice_get, slice_index}
-use Rattle.pdb_model.specs.Tables.{Slot, Whole, Parted, Part, Free, Loose, Outside, Table, IsTable, Lists, times, times_free, first, after, with_slot, next_slot, free_after, end_after, taken, holding, freed, bytes_of_part, part_count}
+use Rattle.pdb_model.specs.Tables.{Slot, Whole, Parted, Part, Free, Loose, Outside, Table, IsTable, Lists, times, times_free, first, with_slot, taken, holding, freed}
 
 -- by whether two numbers are equal
 pub same_or : (i s : ℕ) (P : Bool → Type 0) → (i ≡ s → P true) → ((i ≡ s → ⊥) → P false) → P (i == s)

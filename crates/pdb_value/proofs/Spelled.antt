@@ -1,20 +1,19 @@
 -- Cells after a step spell the table after it.
-use Rattle.std.proofs.Common.{◌≡◌, ◌≢◌, ◌+◌, ◌-◌, ◌*◌, ◌^◌, ◌<◌, ◌≤◌, ◌==◌, Bool, true, false, if◌then◌else◌, ℕ, List, [], ◌∷◌, length, take, drop, refl, sym, ap, subst, ◌∙◌, arith, inl, inr}
-use Rattle.std.proofs.lemmas.Bool.Decides.{eqb_tells}
+use Rattle.std.proofs.Common.{◌≡◌, ◌+◌, ◌^◌, ◌<◌, ◌≤◌, ◌==◌, Bool, true, false, if◌then◌else◌, ℕ, List, [], ◌∷◌, length, take, drop, refl, sym, ap, subst, ◌∙◌, arith}
 use Rattle.pdb_cells.specs.Content.{Content, put_cell}
 use Rattle.pdb_cells.specs.Sizes.{head_file}
 use Rattle.pdb_model.specs.Files.{OnlyTable, head_cell, table_cells, table_file}
 use Rattle.pdb_model.specs.Heads.{Ends, IsHeadCell, ends_at, ends_bytes}
 use Rattle.pdb_model.specs.Slots.{IsFree, IsWhole, free_bytes, padded}
-use Rattle.pdb_model.specs.Tables.{Slot, Whole, Parted, Part, Free, Loose, Outside, Table, IsTable, IsSlot, SpellsTable, times, times_free, first, after, with_slot, next_slot, free_after, end_after, taken, holding, freed}
+use Rattle.pdb_model.specs.Tables.{Slot, Whole, Parted, Part, Free, Loose, Outside, Table, IsSlot, SpellsTable, times_free, first, after, with_slot, next_slot, free_after, end_after, taken, holding}
 use Rattle.pdb_model.specs.Tiers.{slot_size}
 use Rattle.pdb_value.specs.Faults.{HasTable}
-use Rattle.pdb_value.specs.inner.HeadCells.{ends_said, with_ends}
+use Rattle.pdb_value.specs.inner.HeadCells.{with_ends}
 use Rattle.pdb_value.specs.inner.Steps.{IsFreed, IsSlotTaken}
 use Rattle.pdb_value.proofs.HeadCells.{said_is}
 use Rattle.pdb_value.proofs.Broken.{has_end}
 use Rattle.pdb_value.proofs.Layouts.{one_next}
-use Rattle.pdb_value.proofs.Sound.{IsUsed, elsewhere, first_within, free_sound, here, hold_sound, listed, same_or, table, take_sound, there}
+use Rattle.pdb_value.proofs.Sound.{IsUsed, first_within, free_sound, here, hold_sound, listed, same_or, table, take_sound}
 use Rattle.pdb_value.proofs.Written.{ends_written, first_kept, head_kept, last_kept, not_head, others_kept, put_file, put_here, put_index, written_len}
 
 -- ---- what changes in the cells

@@ -1,18 +1,17 @@
 -- Slots are taken one after the other.
-use Rattle.std.proofs.Common.{◌≡◌, ◌≢◌, ◌⊎◌, ◌+◌, ◌-◌, ◌^◌, ◌<◌, ◌≤◌, ℕ, zero, suc, List, [], ◌∷◌, ◌++◌, length, refl, sym, ap, subst, ◌∙◌, arith, inl, inr}
+use Rattle.std.proofs.Common.{◌≡◌, ◌+◌, ◌-◌, ◌^◌, ◌<◌, ◌≤◌, ℕ, zero, suc, List, [], ◌∷◌, ◌++◌, refl, sym, ap, subst, ◌∙◌, arith}
 use Rattle.pdb_cells.specs.Content.{Content}
 use Rattle.pdb_model.specs.Breaks.{IsBrokenHead, IsNotFree}
 use Rattle.pdb_model.specs.Files.{head_cell, table_cells, table_file}
 use Rattle.pdb_model.specs.Heads.{IsHeadCell, ends_at, ends_bytes}
-use Rattle.pdb_model.specs.Slots.{IsFree}
-use Rattle.pdb_model.specs.Tables.{Slot, Table, IsTable, SpellsTable, end_after, first, free_after, next_slot, room_of, slots_taken, taken, taken_many}
+use Rattle.pdb_model.specs.Tables.{Slot, Table, IsTable, SpellsTable, first, next_slot, room_of, slots_taken, taken, taken_many}
 use Rattle.pdb_model.specs.Tiers.{parts_tier}
 use Rattle.pdb_value.specs.Faults.{BreaksFreeList, FaultSays, HasTable, IsFullTier, NoCell, NoTier}
 use Rattle.pdb_value.specs.inner.Many.{AreTaken}
 use Rattle.pdb_value.specs.inner.Steps.{IsSlotTaken}
 use Rattle.pdb_value.specs.declared.fault.ValueFault.{ValueFault}
 use Rattle.pdb_value.specs.declared.fault.ValueFault.TheVariants.{Damaged, Disk, OutOfMemory, TierFull}
-use Rattle.pdb_value.proofs.Sound.{first_within, listed, here, table}
+use Rattle.pdb_value.proofs.Sound.{listed, here, table}
 use Rattle.pdb_value.proofs.Spelled.{ends_are_read, first_is_free, only_itself, only_on}
 
 pub unbroken_head : (cells : Content) (column : ℕ) (Q : ℕ → Type 0) (e : ValueFault) → IsHeadCell (head_cell cells column) → FaultSays (IsBrokenHead cells column) NoTier e → FaultSays NoCell Q e

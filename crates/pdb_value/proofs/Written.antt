@@ -1,17 +1,17 @@
 -- Cells after a put, and head cells after a write of a tier's ends.
-use Rattle.std.proofs.Common.{◌≡◌, ◌≢◌, ◌+◌, ◌-◌, ◌*◌, ◌^◌, ◌<◌, ◌≤◌, ◌==◌, ◌&&◌, if◌then◌else◌, Bool, true, false, ℕ, List, [], ◌∷◌, ◌++◌, length, take, drop, replicate, refl, sym, ap, subst, ◌∙◌, arith, inl, inr, append_assoc}
+use Rattle.std.proofs.Common.{◌≡◌, ◌≢◌, ◌+◌, ◌-◌, ◌^◌, ◌<◌, ◌≤◌, ◌==◌, ◌&&◌, if◌then◌else◌, Bool, true, false, ℕ, List, ◌++◌, length, take, drop, refl, sym, ap, subst, ◌∙◌, arith, inl, inr, append_assoc}
 use Rattle.std.proofs.lemmas.Bool.{cases_lt}
 use Rattle.std.proofs.lemmas.Bool.Decides.{eqb_tells}
 use Rattle.std.proofs.lemmas.Grind.{common_steps}
-use Rattle.std.proofs.lemmas.List.{drop-append-le, take-append-le, drop-take, take-take, length-drop, length-take, length-append, drop-drop}
+use Rattle.std.proofs.lemmas.List.{drop-append-le, take-append-le, drop-take, take-take, length-drop, length-append, drop-drop}
 use Rattle.std.proofs.Math.Seq.{drop-append_seam, take-append_seam}
 use Rattle.pdb_cells.specs.Content.{Content, put_cell}
 use Rattle.pdb_cells.specs.Sizes.{head_file}
-use Rattle.pdb_model.specs.Files.{OnlyTable, head_cell, table_cells, table_file}
+use Rattle.pdb_model.specs.Files.{table_file}
 use Rattle.pdb_model.specs.Heads.{Ends, IsHeadCell, ends_at, ends_bytes, ends_place}
-use Rattle.pdb_value.specs.inner.HeadCells.{AreBits, KeepsEnds, ends_said, with_ends}
+use Rattle.pdb_value.specs.inner.HeadCells.{KeepsEnds, ends_said, with_ends}
 use Rattle.std.specs.Int.{w32, from_le_bytes}
-use Rattle.pdb_value.proofs.HeadCells.{HasHead, head_made, head_read, keeps_made}
+use Rattle.pdb_value.proofs.HeadCells.{head_made, head_read, keeps_made}
 
 -- ---- puts
 

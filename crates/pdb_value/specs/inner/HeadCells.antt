@@ -1,5 +1,5 @@
 -- What is read of a head cell, and what is written to it.
-use Rattle.std.specs.Prelude.{◌≡◌, ℕ, ◌+◌, ◌-◌, ◌^◌, ◌<◌, ◌≤◌, List, [], ◌∷◌, ◌++◌, take, drop}
+use Rattle.std.specs.Prelude.{◌≡◌, ℕ, ◌+◌, ◌^◌, ◌<◌, ◌≤◌, List, ◌++◌, take, drop}
 use Rattle.std.specs.Int.{w32, from_le_bytes}
 use Rattle.pdb_model.specs.Heads.{Ends, ends_at, ends_bytes, ends_place}
 

@@ -1,5 +1,5 @@
 -- A value that is let go, and the slots that are freed then.
-use Rattle.std.specs.Prelude.{◌≡◌, ◌==◌, ℕ, List, [], ◌∷◌, length, if◌then◌else◌}
+use Rattle.std.specs.Prelude.{◌≡◌, ◌==◌, ℕ, List, [], ◌∷◌, if◌then◌else◌}
 use Rattle.pdb_model.specs.Tables.{Free, Loose, Outside, Part, Parted, Slot, Table, Whole, times}
 
 -- a slot where the parts of one head are between the steps of a change

@@ -1,7 +1,6 @@
 -- What a step does with a column's cells: a slot of a tier is taken, or freed.
-use Rattle.std.specs.Prelude.{◌≡◌, ◌≢◌, ℕ, ◌≤◌, List, Some}
+use Rattle.std.specs.Prelude.{◌≡◌, ◌≢◌, ℕ, ◌≤◌, Some}
 use Rattle.pdb_cells.specs.Content.{Content}
-use Rattle.pdb_cells.specs.Sizes.{head_file}
 use Rattle.pdb_model.specs.Breaks.{HasEnd}
 use Rattle.pdb_model.specs.Files.{OnlyTable, head_cell, table_cells}
 use Rattle.pdb_model.specs.Heads.{IsHeadCell}

@@ -1,4 +1,4 @@
-use Rattle.std.proofs.Common.{◌≡◌, ◌<◌, ◌≤◌, ℕ, List, sym, subst, ◌∙◌, refl, arith, inl, inr}
+use Rattle.std.proofs.Common.{arith, inl, inr}
 use Rattle.pdb_value.proofs.Layouts.{one_head}
 use Rattle.pdb_value.proofs.firsts.read_fields.Goals as goal
 use Rattle.pdb_value.proofs.firsts.read_fields.Goals.{then-head-eq0-via-then-head-eq0, then-head-eq0-via-else-head-eq0+then-end-head}

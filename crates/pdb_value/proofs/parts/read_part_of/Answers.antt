@@ -1,9 +1,7 @@
-use Rattle.std.proofs.Common.{◌≡◌, ◌<◌, ◌≤◌, ℕ, List, take, drop, sym, subst, ap, ◌∙◌, refl, arith, inl, inr}
+use Rattle.std.proofs.Common.{ℕ, List, sym, subst, ◌∙◌, refl, arith, inl, inr}
 use Rattle.pdb_model.specs.Breaks.{part_len}
 use Rattle.pdb_model.specs.Slots.{IsPart}
 use Rattle.pdb_value.specs.Faults.{FaultSays, NoTier}
-use Rattle.pdb_value.specs.inner.Parts.{IsPartAfter}
-use Rattle.pdb_value.proofs.Layouts.{one_part}
 use Rattle.pdb_value.proofs.Chains.{no_part, part_value}
 use Rattle.pdb_value.proofs.parts.read_part_of.Goals as goal
 use Rattle.pdb_value.proofs.parts.read_part_of.Goals.{then-part-min-via-then-part-min, then-part-min-via-else-part-min+then-not-is_next}

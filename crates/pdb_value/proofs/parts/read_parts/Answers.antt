@@ -1,4 +1,4 @@
-use Rattle.std.proofs.Common.{rules, ◌≡◌, ◌<◌, ◌≤◌, ◌+◌, ◌-◌, ◌/◌, ◌++◌, ◌∷◌, [], ℕ, List, length, take, drop, min, refl, sym, ap, subst, ◌∙◌, arith, append_assoc, length-append, length-drop}
+use Rattle.std.proofs.Common.{◌≡◌, ◌+◌, ◌-◌, ◌++◌, ◌∷◌, [], ℕ, List, length, take, drop, refl, sym, ap, subst, ◌∙◌, arith, append_assoc, length-append, length-drop}
 use Rattle.std.proofs.lemmas.List.{append-nil}
 use Rattle.std.proofs.lemmas.Result.{err_from_is_err_and}
 use Rattle.pdb_model.specs.Breaks.{part_len}
@@ -6,9 +6,6 @@ use Rattle.pdb_model.specs.Files.{table_cells}
 use Rattle.pdb_model.specs.Slots.{IsPart}
 use Rattle.pdb_model.specs.Tables.{first}
 use Rattle.pdb_model.specs.Tiers.{in_part, parts_tier}
-use Rattle.pdb_value.specs.Values.{AreFurtherParts}
-use Rattle.pdb_value.specs.inner.Parts.{IsBrokenPart}
-use Rattle.pdb_value.proofs.Broken.{says_more}
 use Rattle.pdb_value.proofs.Chains.{has_part, one_fewer, part_added, part_sound, value_len, value_read}
 use Rattle.pdb_value.proofs.Layouts.{one_part}
 use Rattle.pdb_value.proofs.parts.read_parts.Goals as goal

@@ -1,4 +1,4 @@
-use Rattle.std.proofs.Common.{◌≡◌, ◌<◌, ◌≤◌, ◌+◌, ◌-◌, ◌/◌, ◌++◌, ℕ, List, Some, length}
+use Rattle.std.proofs.Common.{◌≡◌, ◌≤◌, ◌+◌, ◌/◌, ◌++◌, ℕ, List, Some, length}
 use Rattle.pdb_cells.specs.Content.{Content}
 use Rattle.pdb_model.specs.Files.{table_cells}
 use Rattle.pdb_model.specs.Tables.{first}

@@ -1,4 +1,4 @@
-use Rattle.std.proofs.Common.{rules, ◌≡◌, ◌<◌, ◌≤◌, ◌+◌, ◌-◌, ◌/◌, ℕ, List, length, take, drop, refl, sym, ap, subst, ◌∙◌, arith, length-drop}
+use Rattle.std.proofs.Common.{rules, ◌≡◌, ◌≤◌, ◌+◌, ◌-◌, ◌/◌, length, take, drop, refl, sym, ap, subst, ◌∙◌, arith, length-drop}
 use Rattle.std.proofs.lemmas.List.{take_rest}
 use Rattle.std.proofs.lemmas.Result.{err_from_is_err_and}
 use Rattle.std.specs.Prelude.{slice_index}
@@ -8,7 +8,7 @@ use Rattle.pdb_model.specs.Heads.{IsHeadCell}
 use Rattle.pdb_model.specs.Slots.{head_bytes}
 use Rattle.pdb_value.specs.Faults.{HasTable}
 use Rattle.pdb_model.specs.Tables.{room_of, slots_of}
-use Rattle.pdb_model.specs.Tiers.{parts_tier, tier_of}
+use Rattle.pdb_model.specs.Tiers.{parts_tier}
 use Rattle.pdb_value.proofs.FirstSlots.{slots_long}
 use Rattle.pdb_value.proofs.Placed.{first_taken, head_of, parts_placed}
 use Rattle.pdb_value.proofs.Spelled.{only_on, only_slot, same_head}

@@ -1,7 +1,7 @@
-use Rattle.std.proofs.Common.{◌≡◌, ◌<◌, ◌≤◌, ◌+◌, ◌-◌, ◌*◌, ◌++◌, ℕ, List, length, take, drop, min, refl, sym, ap, subst, ◌∙◌, arith, length-append}
+use Rattle.std.proofs.Common.{◌≡◌, ◌+◌, ◌*◌, ◌++◌, length, take, drop, min, refl, sym, ap, ◌∙◌, arith, length-append}
 use Rattle.std.proofs.lemmas.List.{drop-drop}
 use Rattle.std.specs.Prelude.{slice_index}
-use Rattle.pdb_cells.specs.Content.{Content, put_cell}
+use Rattle.pdb_cells.specs.Content.{put_cell}
 use Rattle.pdb_model.specs.Files.{table_file}
 use Rattle.pdb_model.specs.Tiers.{in_part, parts_tier}
 use Rattle.pdb_value.proofs.Chains.{part_before}

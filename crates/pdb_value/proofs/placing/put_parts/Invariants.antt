@@ -1,4 +1,4 @@
-use Rattle.std.proofs.Common.{◌≡◌, ◌<◌, ◌≤◌, ◌+◌, ◌-◌, ◌*◌, ℕ, List, length, drop}
+use Rattle.std.proofs.Common.{◌≡◌, ◌≤◌, ◌-◌, ◌*◌, length, drop}
 use Rattle.pdb_cells.specs.Content.{Content}
 use Rattle.pdb_model.specs.Tiers.{in_part}
 use Rattle.pdb_value.specs.Faults.{Drafts}

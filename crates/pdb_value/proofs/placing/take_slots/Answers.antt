@@ -4,8 +4,7 @@ use Rattle.pdb_cells.specs.Content.{Content}
 use Rattle.pdb_model.specs.Tables.{taken_many}
 use Rattle.pdb_value.specs.Faults.{Drafts}
 use Rattle.pdb_value.specs.inner.Many.{AreTaken}
-use Rattle.pdb_value.proofs.Placed.{holding_spelled}
-use Rattle.pdb_value.proofs.Taken.{more_taken, none_taken, then_faults, then_sound}
+use Rattle.pdb_value.proofs.Taken.{more_taken, then_faults, then_sound}
 use Rattle.pdb_value.proofs.placing.take_slots.Goals as goal
 
 pub returns-in_err-slot-clause-faults : goal.returns-in_err-slot-clause-faults

@@ -1,5 +1,4 @@
-use Rattle.std.proofs.Common.{◌≡◌, ℕ, arith, sym, ◌∙◌, rules}
-use Rattle.pdb_model.specs.Slots.{IsFree}
+use Rattle.std.proofs.Common.{arith, ◌∙◌, rules}
 use Rattle.pdb_model.specs.Tiers.{slot_size}
 use Rattle.pdb_value.proofs.Layouts.{free_fields, free_made, free_read, zeros_only}
 use Rattle.pdb_value.proofs.reading.read_free.Goals as goal

@@ -1,7 +1,6 @@
-use Rattle.std.proofs.Common.{◌≡◌, ◌-◌, ◌+◌, ◌++◌, ◌<◌, ◌≤◌, ◌^◌, length, replicate, ℕ, List, arith, sym, ap, ◌∙◌, rules}
+use Rattle.std.proofs.Common.{◌≡◌, ◌++◌, ◌≤◌, arith, sym, ap, ◌∙◌}
 use Rattle.std.specs.Int.{w32, to_le_bytes}
-use Rattle.pdb_model.specs.Slots.{IsHeadOfParts}
-use Rattle.pdb_model.specs.Tiers.{slot_size, tier_of}
+use Rattle.pdb_model.specs.Tiers.{tier_of}
 use Rattle.pdb_value.proofs.Layouts.{head_fields, head_made, head_read, same_back, same_links}
 use Rattle.pdb_value.proofs.reading.read_head_of_parts.Goals as goal
 use Rattle.pdb_value.proofs.reading.read_head_of_parts.Goals.{then-first-ne2-via-then-first-ne2, then-first-ne2-via-else-first-ne2+then-first-ne4044, then-first-ne2-via-else-first-ne2+else-first-ne4044+then-first-eq0, then-whole-gt8388608-via-then-whole-gt8388608, then-whole-gt8388608-via-else-whole-gt8388608+then-tier_for-ne-PARTS_TIER}

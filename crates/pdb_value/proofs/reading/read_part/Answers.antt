@@ -1,6 +1,4 @@
-use Rattle.std.proofs.Common.{◌≡◌, ◌-◌, ◌+◌, ◌++◌, length, replicate, ℕ, arith, sym, ap, ◌∙◌, rules}
-use Rattle.pdb_model.specs.Slots.{IsPart}
-use Rattle.pdb_model.specs.Tiers.{slot_size}
+use Rattle.std.proofs.Common.{◌-◌, ◌+◌, length, replicate, arith, sym, ◌∙◌, rules}
 use Rattle.pdb_value.proofs.Layouts.{part_fields, part_made, part_read, same_back, zeros_only}
 use Rattle.pdb_value.proofs.reading.read_part.Goals as goal
 use Rattle.pdb_value.proofs.reading.read_part.Goals.{then-first-ne3-via-then-first-ne3, then-first-ne3-via-else-first-ne3+then-first-gt4088}

@@ -1,5 +1,4 @@
-use Rattle.std.proofs.Common.{◌≡◌, ◌-◌, ◌+◌, ◌++◌, ◌<◌, ◌≤◌, ◌^◌, length, replicate, ℕ, List, arith, sym, ap, ◌∙◌, rules}
-use Rattle.pdb_model.specs.Slots.{IsWhole}
+use Rattle.std.proofs.Common.{◌≡◌, ◌-◌, ◌+◌, ◌++◌, length, replicate, arith, sym, ap, ◌∙◌, rules}
 use Rattle.pdb_model.specs.Tiers.{slot_size, tier_of}
 use Rattle.pdb_value.proofs.Layouts.{whole_fields, whole_made, whole_read, same_back, zeros_only}
 use Rattle.pdb_value.proofs.Sizes.{whole_short}

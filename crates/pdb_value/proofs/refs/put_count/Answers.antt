@@ -1,6 +1,6 @@
-use Rattle.std.proofs.Common.{◌≡◌, ◌<◌, ◌≤◌, ℕ, List, sym, ap, subst, ◌∙◌, refl, arith}
+use Rattle.std.proofs.Common.{◌∙◌, arith}
 use Rattle.std.proofs.lemmas.Result.{on_ok_weaker}
-use Rattle.pdb_cells.specs.Content.{Content, put_cell}
+use Rattle.pdb_cells.specs.Content.{put_cell}
 use Rattle.pdb_model.specs.Files.{table_file}
 use Rattle.pdb_value.proofs.Recounted.{recount_spelled}
 use Rattle.pdb_value.proofs.Spelled.{only_slot, same_head}

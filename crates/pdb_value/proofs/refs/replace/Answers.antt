@@ -1,4 +1,4 @@
-use Rattle.std.proofs.Common.{◌≡◌, ◌<◌, ◌≤◌, ℕ, List, sym, ap, subst, ◌∙◌, refl, arith}
+use Rattle.std.proofs.Common.{◌≡◌, ◌∙◌, arith}
 use Rattle.pdb_cells.specs.Content.{put_cell}
 use Rattle.pdb_model.specs.Files.{table_file}
 use Rattle.pdb_value.proofs.Held.{agrees}

@@ -1,4 +1,4 @@
-use Rattle.std.proofs.Common.{◌≡◌, ◌<◌, ◌≤◌, ◌+◌, ◌-◌, ℕ, List, length}
+use Rattle.std.proofs.Common.{◌≡◌, ◌≤◌, ℕ, List, length}
 use Rattle.pdb_cells.specs.Content.{Content}
 use Rattle.pdb_model.specs.Breaks.{HasEnd}
 use Rattle.pdb_model.specs.Files.{OnlyTable, table_cells}

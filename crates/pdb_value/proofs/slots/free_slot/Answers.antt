@@ -1,7 +1,7 @@
-use Rattle.std.proofs.Common.{◌≡◌, ◌<◌, ◌≤◌, ◌+◌, ℕ, List, sym, ap, subst, ◌∙◌, refl, arith}
-use Rattle.pdb_cells.specs.Content.{Content, put_cell}
+use Rattle.std.proofs.Common.{◌∙◌, arith}
+use Rattle.pdb_cells.specs.Content.{put_cell}
 use Rattle.pdb_cells.specs.Sizes.{head_file}
-use Rattle.pdb_model.specs.Files.{head_cell, table_cells, table_file}
+use Rattle.pdb_model.specs.Files.{table_file}
 use Rattle.pdb_model.specs.Breaks.{HasEnd}
 use Rattle.pdb_value.proofs.Broken.{has_end}
 use Rattle.pdb_value.proofs.Spelled.{freed_step}

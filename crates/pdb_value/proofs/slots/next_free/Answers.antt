@@ -1,4 +1,4 @@
-use Rattle.std.proofs.Common.{◌≡◌, ◌<◌, ℕ, List, sym, subst, ◌∙◌, refl}
+use Rattle.std.proofs.Common.{◌<◌, ℕ, List, sym, subst, ◌∙◌, refl}
 use Rattle.pdb_model.specs.Slots.{IsFree}
 use Rattle.pdb_value.specs.Faults.{FaultSays, NoTier}
 use Rattle.pdb_value.proofs.Layouts.{one_next}

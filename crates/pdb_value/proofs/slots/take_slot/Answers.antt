@@ -1,9 +1,7 @@
-use Rattle.std.proofs.Common.{◌≡◌, ◌<◌, ◌≤◌, ◌+◌, ℕ, List, sym, ap, subst, ◌∙◌, refl, arith, inl, inr}
+use Rattle.std.proofs.Common.{refl, arith}
 use Rattle.std.proofs.lemmas.Result.{err_from_is_err_and}
-use Rattle.pdb_cells.specs.Content.{Content, put_cell}
+use Rattle.pdb_cells.specs.Content.{put_cell}
 use Rattle.pdb_cells.specs.Sizes.{head_file}
-use Rattle.pdb_model.specs.Files.{head_cell, table_cells}
-use Rattle.pdb_model.specs.Slots.{IsFree}
 use Rattle.pdb_value.proofs.Spelled.{took_end, took_first}
 use Rattle.pdb_value.proofs.Broken.{free_list_broken}
 use Rattle.pdb_value.proofs.Taken.{first_free, no_room, unbroken_head}

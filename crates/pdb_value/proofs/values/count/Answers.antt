@@ -1,7 +1,6 @@
-use Rattle.std.proofs.Common.{rules, ◌≡◌, ◌≢◌, ◌≤◌, true, ℕ, List, refl, sym, ap, subst, ◌∙◌, arith, inl, inr}
+use Rattle.std.proofs.Common.{◌≡◌, true, sym, ◌∙◌, arith}
 use Rattle.std.proofs.lemmas.Result.{err_from_is_err_and}
 use Rattle.std.proofs.lemmas.Slice.Eq.{bytes_eq-Decides}
-use Rattle.pdb_model.specs.Tables.{Held}
 use Rattle.pdb_value.proofs.FirstSlots.{first_at}
 use Rattle.pdb_value.proofs.Held.{agrees, first_sound}
 use Rattle.pdb_value.proofs.values.count.Goals as goal

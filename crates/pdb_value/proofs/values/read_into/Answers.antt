@@ -1,8 +1,8 @@
-use Rattle.std.proofs.Common.{rules, ◌≡◌, ◌≢◌, ◌≤◌, ◌-◌, ◌+◌, ◌/◌, ◌++◌, Bool, true, false, not, ℕ, List, [], length, take, drop, refl, sym, ap, subst, ◌∙◌, arith, inl, inr, append_assoc, length-append, length-drop}
+use Rattle.std.proofs.Common.{◌≡◌, ◌≤◌, ◌-◌, ◌+◌, ◌/◌, ◌++◌, true, false, not, length, take, drop, refl, sym, ap, subst, ◌∙◌, arith, length-drop}
 use Rattle.std.proofs.lemmas.Result.{err_from_is_err_and}
 use Rattle.std.proofs.lemmas.List.{take_rest}
 use Rattle.std.proofs.lemmas.Slice.Eq.{bytes_eq-Decides}
-use Rattle.pdb_model.specs.Tables.{Held, slots_of}
+use Rattle.pdb_model.specs.Tables.{slots_of}
 use Rattle.pdb_model.specs.Tiers.{slot_size}
 use Rattle.pdb_value.proofs.FirstSlots.{broken_part, first_at, not_no, parts_at, slots_long, whole_at}
 use Rattle.pdb_value.proofs.Held.{agrees, first_sound, parts_there, value_is}
