@@ -4,6 +4,8 @@ pub mod Chunks
 pub mod Slots
 pub mod Gates
 pub mod Records
+pub mod Logs
+pub mod Recovery
 pub mod Tables
 pub mod Files
 pub mod Breaks
