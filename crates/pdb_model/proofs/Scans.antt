@@ -1,7 +1,7 @@
 -- What a scan of a log file comes to.
 use Rattle.std.proofs.Common.{◌≡◌, ◌<◌, ◌≤◌, ◌+◌, ℕ, zero, suc, List, [], ◌∷◌, ◌++◌, length, slice_index, refl, sym, ap, subst, ◌∙◌, arith}
 use Rattle.pdb_disk.specs.Files.{FileBytes, Image}
-use Rattle.pdb_model.specs.Logs.{AreInARow, AreTaken, IsFound, IsLogFile, IsScanned, StandsWhole}
+use Rattle.pdb_model.specs.Logs.{AreInARow, AreRecovered, IsFound, IsLogFile, IsScanned, StandsWhole}
 use Rattle.pdb_model.specs.Records.{Record, header_bytes, record_bytes}
 
 -- a record begins with an S
@@ -65,5 +65,5 @@ only_first_file x r s scanned same found = pick found.file found.is_log.0 (found
     pick (suc zero) least lowest = refl
     pick (suc (suc n)) least lowest = absurd (lowest (omega (arith)) scanned (sym same))
 
-pub nothing_taken : (x : Image) (number : ℕ) → ((j : ℕ) → IsLogFile j → x j 0 ≡ 0) → AreTaken x number []
+pub nothing_taken : (x : Image) (number : ℕ) → ((j : ℕ) → IsLogFile j → x j 0 ≡ 0) → AreRecovered x number []
 nothing_taken x number zeros r found next = nothing_at_zeros (x found.file) r (zeros found.file found.is_log) found.scanned

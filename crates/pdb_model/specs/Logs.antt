@@ -49,9 +49,9 @@ pub record IsFound (x : Image) (r : Record) : Type 0 where
   pub lowest : (j : ℕ) (s : Record) → IsLogFile j → j < file → IsScanned (x j) s → s.number ≡ r.number → ⊥
 
 -- Recovery takes these records: the one of the number after this, the one after that, and so on while there is one.
-abbrev pub AreTaken : Image → ℕ → List Record → Type 0
-AreTaken x number [] = (r : Record) → IsFound x r → r.number ≡ number + 1 → ⊥
-AreTaken x number (r ∷ rs) = IsFound x r × (r.number ≡ number + 1) × AreTaken x (number + 1) rs
+abbrev pub AreRecovered : Image → ℕ → List Record → Type 0
+AreRecovered x number [] = (r : Record) → IsFound x r → r.number ≡ number + 1 → ⊥
+AreRecovered x number (r ∷ rs) = IsFound x r × (r.number ≡ number + 1) × AreRecovered x (number + 1) rs
 
 -- a gate slot is whole in its file
 pub record HasGate (c : FileBytes) (g : GateSlot) : Type 0 where

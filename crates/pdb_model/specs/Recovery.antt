@@ -5,7 +5,7 @@ use Rattle.pdb_cells.specs.Puts.{laid}
 use Rattle.pdb_cells.specs.Sizes.{size_of}
 use Rattle.pdb_disk.specs.Files.{FileBytes, FileState, Files, Image, IsImage, StandsAt, Step, done}
 use Rattle.pdb_model.specs.Gates.{gate_at, gate_bytes, gate_place}
-use Rattle.pdb_model.specs.Logs.{AreInARow, AreTaken, HasGate, IsGate, IsLogFile, StandsWhole, gate_file}
+use Rattle.pdb_model.specs.Logs.{AreInARow, AreRecovered, HasGate, IsGate, IsLogFile, StandsWhole, gate_file}
 use Rattle.pdb_model.specs.Records.{Record, record_bytes}
 use Rattle.pdb_model.specs.declared.gate_slot.GateSlot.{GateSlot}
 
@@ -39,7 +39,7 @@ pub record Laid (x : Image) (row : Row) : Type 0 where
   pub gate : GateSlot
   pub is_gate : IsGate (x gate_file) gate
   pub taken : List Record
-  pub are_taken : AreTaken x gate.number taken
+  pub are_taken : AreRecovered x gate.number taken
   pub cells : (file index : ℕ) → row.cells file index ≡ laid_over taken (cells_of_files x) file index
   pub commits : row.commits ≡ commits_after gate.commits taken
 
