@@ -3,3 +3,4 @@ pub mod Orders
 pub mod Applying
 pub mod Records
 pub mod TooLong
+pub mod Commits
