@@ -48,4 +48,6 @@ pub type Keys = Items<Bytes>;
 pub type OutOfMemory = std::alloc::AllocError;
 
 #[cfg(test)]
+mod keeper_tests;
+#[cfg(test)]
 mod tests;
