@@ -1,4 +1,4 @@
-ghost use Rattle.std.specs.Prelude.{◌≡◌, None, All, OnOk, OnErr, option_copied, ℕ, List};
+ghost use Rattle.std.specs.Prelude.{◌≡◌, None, All, IfOk, OnOk, OnErr, ℕ, List};
 ghost use Rattle.std.specs.Option.{option_map};
 ghost use Rattle.sdb_base.specs.Content.{Counted, meta_after, node_after};
 ghost use Rattle.sdb_base.specs.inner.Applying.{AreApplied, AreSame, HasPlace, PlacesStay, meta_in, node_in};
@@ -6,6 +6,7 @@ ghost use Rattle.sdb_base.specs.inner.Applying.{AreApplied, AreSame, HasPlace, P
 use crate::OutOfMemory;
 use crate::bytes::Bytes;
 use crate::column::Column;
+use crate::items::TryCopy;
 use crate::node::NodeHash;
 use crate::op::{Op, Ops};
 use std::alloc::Global;
@@ -32,18 +33,25 @@ impl Columns {
         }
     }
 
-    /// The bytes of a node.
-    pub(crate) fn node(&self, key: &NodeHash) -> Option<&Bytes>
-        ensures { option_copied result ≡ option_map (λ (c : Counted). c.bytes) (node_in self.now key.now.0) }
+    /// A copy of a node's bytes.
+    pub(crate) fn node(&self, key: &NodeHash) -> Result<Option<Bytes>, OutOfMemory>
+        ensures { IfOk result (λ r. r ≡ option_map (λ (c : Counted). c.bytes) (node_in self.now key.now.0)) }
     {
-        self.nodes.get(key)
+        match self.nodes.get(key) {
+            Some(bytes) => Ok(Some(bytes.copy(self.alloc)?)),
+            None => Ok(None),
+        }
     }
 
-    /// The bytes under a plain key.
-    pub(crate) fn meta(&self, key: &Bytes) -> Option<&Bytes>
-        ensures { option_copied result ≡ option_map (λ (c : Counted). c.bytes) (meta_in self.now key.now) }
+    /// A copy of the bytes under a plain key.
+    pub(crate) fn meta(&self, key: &[u8]) -> Result<Option<Bytes>, OutOfMemory>
+        ensures { IfOk result (λ r. r ≡ option_map (λ (c : Counted). c.bytes) (meta_in self.now key.now)) }
     {
-        self.metas.get(key)
+        let key = Bytes::from_slice(self.alloc, key)?;
+        match self.metas.get(&key) {
+            Some(bytes) => Ok(Some(bytes.copy(self.alloc)?)),
+            None => Ok(None),
+        }
     }
 
     /// Applies operations in their order. An `Err` changes nothing.

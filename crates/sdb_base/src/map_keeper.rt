@@ -1,4 +1,4 @@
-ghost use Rattle.std.specs.Prelude.{◌≡◌, ◌≤◌, ◌+◌, ◌-◌, ◌^◌, ◌++◌, ◌∷◌, ◌↔◌, ◌⊎◌, [], ℕ, List, length, All, Option, Some, None, OnOk, OnErr, IfOk, IfErr, IsErr, IsTrue, option_copied};
+ghost use Rattle.std.specs.Prelude.{◌≡◌, ◌≤◌, ◌+◌, ◌-◌, ◌^◌, ◌++◌, ◌∷◌, ◌↔◌, ◌⊎◌, [], ℕ, List, length, All, Option, Some, None, OnOk, OnErr, IfOk, IfErr, IsTrue};
 ghost use Rattle.std.specs.Option.{option_map};
 ghost use Rattle.sdb_io.specs.Faults.{CountsFault};
 ghost use Rattle.sdb_base.specs.Content.{Counted, meta_under, node_under};
@@ -12,7 +12,6 @@ ghost use Rattle.sdb_base.specs.declared.numbers.StageAnswer.TheVariants as answ
 use crate::OutOfMemory;
 use crate::bytes::Bytes;
 use crate::columns::Columns;
-use crate::items::TryCopy;
 use crate::keeper::{Keeper, Stages};
 use crate::node::NodeHash;
 use crate::numbers::{Grown, KeepFault, Logged, Numbers};
@@ -27,7 +26,6 @@ const MOST_IN_VALUE: usize = 8_388_608;
 /// A keeper of commits in memory. It never makes a read, and no fault is ever due.
 #[derive(Drop)]
 pub struct MapKeeper {
-    alloc: Global,
     columns: Columns,
     progress: Progress,
     plan: Plan,
@@ -43,7 +41,6 @@ impl MapKeeper {
         ensures faults { failed_keeper_calls result ≡ 0 }
     {
         MapKeeper {
-            alloc,
             columns: Columns::new(alloc),
             progress: Progress::new(),
             plan: Plan::new(alloc),
@@ -67,7 +64,8 @@ impl MapKeeper {
 impl Keeper for MapKeeper {
     ghost use Rattle.std.specs.Prelude.{Some, []};
     ghost use Rattle.sdb_base.specs.MapKeeping.{AddsCommits, KeepsCommits, NeverFalls, failed_keeper_calls, kept_pipeline};
-    ghost use Rattle.sdb_base.specs.inner.Lists.{ends_here, goes_on, le_itself, le_on};
+    ghost use Rattle.std.proofs.Common.{rules};
+    ghost use Rattle.sdb_base.specs.inner.Later.{ends_here, goes_on};
 
     ghost stands = { KeepsCommits };
 
@@ -91,7 +89,7 @@ impl Keeper for MapKeeper {
     /// fails `OutOfMemory`.
     fn node(&mut self, key: &NodeHash) -> Result<Option<Bytes>, KeepFault>
         ensures bytes { IfOk result (λ r. r ≡ option_map (λ (c : Counted). c.bytes) (kept_node self.old key.now.0)) }
-        ensures answer { (commits : Commits) → KeepsCommits self.old commits → Unit {0} → IfOk result (IsNodeAnswer commits key.now.0 (node_under (operations commits) key.now.0)) }
+        ensures answer { (commits : Commits) → KeepsCommits self.old commits → IfOk result (IsNodeAnswer commits key.now.0 (node_under (operations commits) key.now.0)) }
         ensures stands { (commits : Commits) → KeepsCommits self.old commits → KeepsCommits self.new commits }
         ensures later { (commits : Commits) → KeepsCommits self.old commits → AddsCommits self.old commits self.new commits }
         ensures pipeline { kept_pipeline self.new ≡ kept_pipeline self.old }
@@ -102,14 +100,17 @@ impl Keeper for MapKeeper {
         ensures call { CountsCall self.old self.new }
     {
         self.plan.begin()?;
-        copied(self.alloc, self.columns.node(key))
+        match self.columns.node(key) {
+            Ok(found) => Ok(found),
+            Err(_) => Err(KeepFault::OutOfMemory),
+        }
     }
 
     /// The bytes under a plain key. A call that is to fail answers `Disk`, any other that fails `OutOfMemory`.
     fn meta(&mut self, key: &[u8]) -> Result<Option<Bytes>, KeepFault>
         requires { length key.now ≤ most_in_plain_key }
         ensures bytes { IfOk result (λ r. r ≡ option_map (λ (c : Counted). c.bytes) (kept_meta self.old key.now)) }
-        ensures answer { (commits : Commits) → KeepsCommits self.old commits → Unit {0} → IfOk result (IsMetaAnswer (meta_under (operations commits) key.now)) }
+        ensures answer { (commits : Commits) → KeepsCommits self.old commits → IfOk result (IsMetaAnswer (meta_under (operations commits) key.now)) }
         ensures stands { (commits : Commits) → KeepsCommits self.old commits → KeepsCommits self.new commits }
         ensures later { (commits : Commits) → KeepsCommits self.old commits → AddsCommits self.old commits self.new commits }
         ensures pipeline { kept_pipeline self.new ≡ kept_pipeline self.old }
@@ -120,10 +121,10 @@ impl Keeper for MapKeeper {
         ensures call { CountsCall self.old self.new }
     {
         self.plan.begin()?;
-        let Ok(key) = Bytes::from_slice(self.alloc, key) else {
-            return Err(KeepFault::OutOfMemory);
-        };
-        copied(self.alloc, self.columns.meta(&key))
+        match self.columns.meta(key) {
+            Ok(found) => Ok(found),
+            Err(_) => Err(KeepFault::OutOfMemory),
+        }
     }
 
     /// Accepts a commit and answers its number, from 1. An `Err` changes nothing: `Disk` where the call is to fail, else
@@ -171,15 +172,15 @@ impl Keeper for MapKeeper {
         0
     }
 
-    ghost after_itself = { λ a. (le_itself _, le_itself _) };
+    ghost after_itself = { λ a. (Prim.search rules, Prim.search rules) };
 
-    ghost after_on = { λ a b c p q. (le_on _ _ _ p.0 q.0, le_on _ _ _ p.1 q.1) };
+    ghost after_on = { λ a b c p q. (Prim.search (rules, p, q), Prim.search (rules, p, q)) };
 
-    ghost rises = { λ a b p. (p.0, le_itself 0) };
+    ghost rises = { λ a b p. (p.0, Prim.search rules) };
 
-    ghost later_itself = { λ a g stands. ((le_itself _, le_itself _), ([], ends_here g)) };
+    ghost later_itself = { λ a g stands. ((Prim.search rules, Prim.search rules), ([], ends_here g)) };
 
-    ghost later_on = { λ a b c g h i p q. ((le_on _ _ _ p.0.0 q.0.0, le_on _ _ _ p.0.1 q.0.1), goes_on g h i p.1 q.1) };
+    ghost later_on = { λ a b c g h i p q. ((Prim.search (rules, p.0, q.0), Prim.search (rules, p.0, q.0)), goes_on g h i p.1 q.1) };
 
     ghost later_after = { λ a b g h p. p.0 };
 
@@ -277,18 +278,6 @@ impl Stages for MapKeeper {
     {
         self.plan.begin()?;
         Ok(Grown::Idle)
-    }
-}
-
-// A copy of the bytes that were found.
-fn copied(alloc: Global, found: Option<&Bytes>) -> Result<Option<Bytes>, KeepFault>
-    ensures ok { IfOk result (λ r. r ≡ option_copied found.entry) }
-    ensures err { IfErr result (λ e. e ≡ faults.OutOfMemory) }
-{
-    let Some(bytes) = found else { return Ok(None) };
-    match bytes.copy(alloc) {
-        Ok(bytes) => Ok(Some(bytes)),
-        Err(_) => Err(KeepFault::OutOfMemory),
     }
 }
 
