@@ -12,7 +12,7 @@ use Rattle.std.proofs.lemmas.List.Elements.{All-more, All-weaker}
 use Rattle.std.proofs.lemmas.Map.Text.{is_eq-slice_cmp}
 use Rattle.std.proofs.lemmas.Slice.Eq.{bytes_eq-Decides}
 use Rattle.sdb_base.specs.Content.{Counted, meta_after, meta_from, node_after, node_from}
-use Rattle.sdb_base.specs.Holding.{hash_cmp, held}
+use Rattle.sdb_base.specs.Holding.{hash_cmp, held_at}
 use Rattle.sdb_base.specs.inner.Applying.{AreApplied, AreSame, HasPlace, PlacesStay, meta_in, node_in}
 use Rattle.sdb_base.specs.inner.Places.{HoldsAt, HoldsSame, KeepsPlaces}
 use Rattle.sdb_base.specs.declared.column.Stored.{Stored}
@@ -29,22 +29,22 @@ chosen false f x y same = refl
 
 -- what column 0 holds after a change at one key
 pub node_changed : (m n : BTreeMap NodeHash (Option Stored)) (k : NodeHash) (f : Option Counted → Option Counted)
-    → HoldsAt hash_cmp m k (f (held (get hash_cmp m k))) n → (key : List ℕ)
-    → held (get hash_cmp n (record { 0 = key }))
-        ≡ cond (bytes_eq k.0 key) (f (held (get hash_cmp m (record { 0 = key })))) (held (get hash_cmp m (record { 0 = key })))
+    → HoldsAt hash_cmp m k (f (held_at (get hash_cmp m k))) n → (key : List ℕ)
+    → held_at (get hash_cmp n (record { 0 = key }))
+        ≡ cond (bytes_eq k.0 key) (f (held_at (get hash_cmp m (record { 0 = key })))) (held_at (get hash_cmp m (record { 0 = key })))
 node_changed m n k f after key =
-    let there = held (get hash_cmp m (record { 0 = key })) in
-    let here = held (get hash_cmp m k) in
+    let there = held_at (get hash_cmp m (record { 0 = key })) in
+    let here = held_at (get hash_cmp m k) in
     after (record { 0 = key })
     ∙ ap (λ t. cond t (f here) there) (is_eq-slice_cmp k.0 key)
-    ∙ chosen (bytes_eq k.0 key) f here there (λ e. ap (λ (q : List ℕ). held (get hash_cmp m (record { 0 = q }))) ((bytes_eq-Decides k.0 key).0 e))
+    ∙ chosen (bytes_eq k.0 key) f here there (λ e. ap (λ (q : List ℕ). held_at (get hash_cmp m (record { 0 = q }))) ((bytes_eq-Decides k.0 key).0 e))
 
 -- what column 1 holds after a change at one key
 pub meta_changed : (m n : BTreeMap (List ℕ) (Option Stored)) (k : List ℕ) (w : Option Counted)
     → HoldsAt (slice_cmp nat_cmp) m k w n → (key : List ℕ)
-    → held (get (slice_cmp nat_cmp) n key) ≡ cond (bytes_eq k key) w (held (get (slice_cmp nat_cmp) m key))
+    → held_at (get (slice_cmp nat_cmp) n key) ≡ cond (bytes_eq k key) w (held_at (get (slice_cmp nat_cmp) m key))
 meta_changed m n k w after key =
-    after key ∙ ap (λ t. cond t w (held (get (slice_cmp nat_cmp) m key))) (is_eq-slice_cmp k key)
+    after key ∙ ap (λ t. cond t w (held_at (get (slice_cmp nat_cmp) m key))) (is_eq-slice_cmp k key)
 
 -- places that stay in each column stay for operations
 pub places_stay : (a b : Columns) → KeepsPlaces hash_cmp a.nodes.places b.nodes.places

@@ -17,6 +17,6 @@ held_in None = None
 held_in (Some s) = Some (record { count = s.count; bytes = s.bytes })
 
 -- what is held where there may be a place
-abbrev pub held : Option (Option Stored) → Option Counted
-held None = None
-held (Some place) = held_in place
+abbrev pub held_at : Option (Option Stored) → Option Counted
+held_at None = None
+held_at (Some place) = held_in place

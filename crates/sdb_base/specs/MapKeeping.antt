@@ -5,7 +5,7 @@ use Rattle.std.specs.Cmp.Lexicographic.{slice_cmp}
 use Rattle.std.specs.Ordering.{nat_cmp}
 use Rattle.sdb_io.specs.Faults.{one_more}
 use Rattle.sdb_base.specs.Content.{Counted, meta_under, node_under}
-use Rattle.sdb_base.specs.Holding.{hash_cmp, held}
+use Rattle.sdb_base.specs.Holding.{hash_cmp, held_at}
 use Rattle.sdb_base.specs.Keeping.{Commits, most_in_kept_value, operations}
 use Rattle.sdb_base.specs.Pipeline.{Pipeline}
 use Rattle.sdb_base.specs.Uncrowded.{uncrowded}
@@ -17,11 +17,11 @@ use Rattle.sdb_base.specs.declared.map_keeper.MapKeeper.{MapKeeper}
 
 -- what column 0 holds under a key
 abbrev pub kept_node : MapKeeper → List ℕ → Option Counted
-kept_node m key = held (get hash_cmp m.columns.nodes.places (record { 0 = key }))
+kept_node m key = held_at (get hash_cmp m.columns.nodes.places (record { 0 = key }))
 
 -- what column 1 holds under a key
 abbrev pub kept_meta : MapKeeper → List ℕ → Option Counted
-kept_meta m key = held (get (slice_cmp nat_cmp) m.columns.metas.places key)
+kept_meta m key = held_at (get (slice_cmp nat_cmp) m.columns.metas.places key)
 
 -- how far commits have come
 abbrev pub kept_pipeline : MapKeeper → Pipeline

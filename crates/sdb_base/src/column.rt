@@ -2,7 +2,7 @@ ghost use Rattle.std.specs.Prelude.{◌≡◌, IsSome, None, Some, OnOk, option_
 ghost use Rattle.std.specs.BTreeMap.{get};
 ghost use Rattle.std.specs.Option.{option_map};
 ghost use Rattle.sdb_base.specs.Content.{Counted, with_reference, without_reference};
-ghost use Rattle.sdb_base.specs.Holding.{held, held_in};
+ghost use Rattle.sdb_base.specs.Holding.{held_at, held_in};
 ghost use Rattle.sdb_base.specs.inner.Places.{HoldsAt, HoldsSame, KeepsPlaces};
 
 use crate::OutOfMemory;
@@ -37,7 +37,7 @@ impl<K: Ord + TryCopy> Column<K> {
 
     /// The bytes under a key.
     pub(crate) fn get(&self, key: &K) -> Option<&Bytes>
-        ensures { option_copied result ≡ option_map (λ (c : Counted). c.bytes) (held (get K.cmp self.now.places key.now)) }
+        ensures { option_copied result ≡ option_map (λ (c : Counted). c.bytes) (held_at (get K.cmp self.now.places key.now)) }
     {
         match self.places.get(key) {
             Some(Some(stored)) => Some(&stored.bytes),
@@ -60,7 +60,7 @@ impl<K: Ord + TryCopy> Column<K> {
     /// Adds a reference to a key that has a place.
     pub(crate) fn add(&mut self, key: &K, bytes: Bytes)
         requires { IsSome (get K.cmp self.old.places key.now) }
-        ensures holds { HoldsAt K.cmp self.old.places key.now (with_reference bytes (held (get K.cmp self.old.places key.now))) self.new.places }
+        ensures holds { HoldsAt K.cmp self.old.places key.now (with_reference bytes (held_at (get K.cmp self.old.places key.now))) self.new.places }
         ensures stay { KeepsPlaces K.cmp self.old.places self.new.places }
     {
         if let Some(place) = self.places.get_mut(key) {
@@ -70,7 +70,7 @@ impl<K: Ord + TryCopy> Column<K> {
 
     /// Takes a reference from a key.
     pub(crate) fn release(&mut self, key: &K)
-        ensures holds { HoldsAt K.cmp self.old.places key.now (without_reference (held (get K.cmp self.old.places key.now))) self.new.places }
+        ensures holds { HoldsAt K.cmp self.old.places key.now (without_reference (held_at (get K.cmp self.old.places key.now))) self.new.places }
         ensures stay { KeepsPlaces K.cmp self.old.places self.new.places }
     {
         if let Some(place) = self.places.get_mut(key) {

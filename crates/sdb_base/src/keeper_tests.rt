@@ -6,14 +6,17 @@ use std::alloc::Global;
 use std::test::*;
 
 // An operation on a key and with bytes of one byte each.
+#[derive(Drop)]
 enum Step {
     Add(u8, u8),
     Release(u8),
     Put(u8, u8),
+    // so many bytes
+    Fill(u8, u8, usize),
     Erase(u8),
 }
 
-use Step::{Add, Erase, Put, Release};
+use Step::{Add, Erase, Fill, Put, Release};
 
 // Operations, and what columns 0 and 1 hold under the key 1 after them, in one commit or in several.
 const HELD: [(&[Step], Option<u8>, Option<u8>); 13] = [
@@ -32,20 +35,42 @@ const HELD: [(&[Step], Option<u8>, Option<u8>); 13] = [
     (&[Erase(1), Put(2, 7)], None, None),
 ];
 
+// The answers of stages after three commits, one after the other.
+const ANSWERS: [(KeeperCall, StageAnswer); 15] = [
+    (KeeperCall::Log, StageAnswer::Logged(Logged::Commit(1))),
+    (KeeperCall::Log, StageAnswer::Logged(Logged::Commit(2))),
+    (KeeperCall::Enact, StageAnswer::Enacted(None)),
+    (KeeperCall::Flush, StageAnswer::Flushed(2)),
+    (KeeperCall::Log, StageAnswer::Logged(Logged::Commit(3))),
+    (KeeperCall::Log, StageAnswer::Logged(Logged::Idle)),
+    (KeeperCall::Enact, StageAnswer::Enacted(Some(1))),
+    (KeeperCall::Clean, StageAnswer::Cleaned(1)),
+    (KeeperCall::Enact, StageAnswer::Enacted(Some(2))),
+    (KeeperCall::Enact, StageAnswer::Enacted(None)),
+    (KeeperCall::Grow, StageAnswer::Grown(Grown::Idle)),
+    (KeeperCall::Flush, StageAnswer::Flushed(3)),
+    (KeeperCall::Enact, StageAnswer::Enacted(Some(3))),
+    (KeeperCall::Enact, StageAnswer::Enacted(None)),
+    (KeeperCall::Clean, StageAnswer::Cleaned(3)),
+];
+
+// Each call that can fail.
+const CALLS: [KeeperCall; 8] = [
+    KeeperCall::Node,
+    KeeperCall::Meta,
+    KeeperCall::Commit,
+    KeeperCall::Log,
+    KeeperCall::Flush,
+    KeeperCall::Enact,
+    KeeperCall::Clean,
+    KeeperCall::Grow,
+];
+
 #[test]
 fn columns_hold_what_operations_leave(rt: HostRuntime) -> Result<(), Fail> {
     for (steps, node, meta) in HELD {
-        let mut whole = MapKeeper::new(rt.alloc());
-        assert_eq!(rt; whole.commit(ops(rt.alloc(), steps)?), Ok(1));
-        assert_eq!(rt; node_under(&mut whole), Ok(node));
-        assert_eq!(rt; meta_under(&mut whole), Ok(meta));
-        let mut parted = MapKeeper::new(rt.alloc());
-        for step in steps {
-            assert!(rt; parted.commit(one(rt.alloc(), step)?).is_ok());
-        }
-        assert_eq!(rt; node_under(&mut parted), Ok(node));
-        assert_eq!(rt; meta_under(&mut parted), Ok(meta));
-        assert_eq!(rt; (parted.numbers().accepted, parted.reads()), (steps.len() as u64, 0));
+        assert_eq!(rt; held_after_one(rt.alloc(), steps)?, (node, meta));
+        assert_eq!(rt; held_after_each(rt.alloc(), steps)?, (node, meta));
     }
     Ok(())
 }
@@ -53,87 +78,113 @@ fn columns_hold_what_operations_leave(rt: HostRuntime) -> Result<(), Fail> {
 #[test]
 fn a_value_that_is_too_long_refuses_its_commit(rt: HostRuntime) -> Result<(), Fail> {
     let mut keeper = MapKeeper::new(rt.alloc());
-    assert_eq!(rt; keeper.commit(with_length(rt.alloc(), 8_388_608)?), Ok(1));
-    assert_eq!(rt; meta_under(&mut keeper), Ok(Some(5)));
-    assert_eq!(rt; keeper.commit(ops(rt.alloc(), &[Put(1, 6)])?), Ok(2));
+    assert_eq!(rt; keeper.commit(ops(rt.alloc(), &[Add(1, 4), Add(1, 4)])?), Ok(1));
     let refused = Err(KeepFault::ValueTooLong { len: 8_388_609 });
-    assert_eq!(rt; keeper.commit(with_length(rt.alloc(), 8_388_609)?), refused);
-    assert_eq!(rt; meta_under(&mut keeper), Ok(Some(6)));
-    assert_eq!(rt; node_under(&mut keeper), Ok(Some(4)));
-    assert_eq!(rt; (keeper.numbers().accepted, keeper.faults()), (2, 0));
+    for (len, byte, want, left) in [
+        (8_388_607, 5, Ok(2), (Some(4), Some(5))),
+        (8_388_609, 6, refused, (Some(4), Some(5))),
+        (8_388_608, 7, Ok(3), (None, Some(7))),
+    ] {
+        let steps = [Put(1, 9), Fill(1, byte, len), Release(1)];
+        assert_eq!(rt; keeper.commit(ops(rt.alloc(), &steps)?), want);
+        assert_eq!(rt; held(&mut keeper)?, left);
+    }
+    assert_eq!(rt; keeper.numbers().accepted, 3);
+    assert_eq!(rt; (keeper.faults(), keeper.reads()), (0, 0));
     Ok(())
 }
 
 #[test]
 fn commits_go_through_the_stages(rt: HostRuntime) -> Result<(), Fail> {
     let mut keeper = MapKeeper::new(rt.alloc());
-    assert_eq!(rt; keeper.log(), Ok(Logged::Idle));
     for number in 1..4u64 {
         assert_eq!(rt; keeper.commit(Ops::new(rt.alloc())), Ok(number));
     }
-    assert_eq!(rt; keeper.log(), Ok(Logged::Commit(1)));
-    assert_eq!(rt; keeper.log(), Ok(Logged::Commit(2)));
-    assert_eq!(rt; keeper.enact(), Ok(None));
-    assert_eq!(rt; keeper.flush(), Ok(2));
-    assert_eq!(rt; keeper.log(), Ok(Logged::Commit(3)));
-    assert_eq!(rt; keeper.log(), Ok(Logged::Idle));
-    assert_eq!(rt; keeper.enact(), Ok(Some(1)));
-    assert_eq!(rt; keeper.clean(), Ok(1));
-    assert_eq!(rt; keeper.enact(), Ok(Some(2)));
-    assert_eq!(rt; keeper.enact(), Ok(None));
-    assert_eq!(rt; keeper.grow(), Ok(Grown::Idle));
+    for (call, want) in ANSWERS {
+        assert_eq!(rt; answer(rt.alloc(), &mut keeper, call), Ok(Some(want)));
+    }
     let numbers = Numbers {
         accepted: 3,
         logged: 3,
-        flushed: 2,
-        enacted: 2,
-        cleaned: 1,
+        flushed: 3,
+        enacted: 3,
+        cleaned: 3,
     };
     assert_eq!(rt; keeper.numbers(), numbers);
-    assert_eq!(rt; keeper.flush(), Ok(3));
-    assert_eq!(rt; keeper.enact(), Ok(Some(3)));
-    assert_eq!(rt; keeper.clean(), Ok(3));
     Ok(())
 }
 
 #[test]
 fn each_call_fails_where_it_is_to(rt: HostRuntime) -> Result<(), Fail> {
-    for failing in 0..9u64 {
-        let mut keeper = MapKeeper::new(rt.alloc());
-        keeper.fail_at(failing)?;
-        let mut number = 0u64;
-        for fails in outcomes(rt.alloc(), &mut keeper)? {
-            assert_eq!(rt; fails, number == failing, "call {number} of {failing}");
-            number = number.saturating_add(1);
-        }
-        assert_eq!(rt; keeper.faults(), if failing < 8 { 1 } else { 0 });
+    for failing in CALLS {
+        assert_eq!(rt; failed(rt.alloc(), failing)?, Some(failing));
     }
     Ok(())
 }
 
-// Whether each of the eight calls that can fail answered the disk's fault.
-fn outcomes(alloc: Global, keeper: &mut MapKeeper) -> Result<[bool; 8], OutOfMemory> {
-    let disk = KeepFault::Disk;
-    Ok([
-        keeper.commit(Ops::new(alloc)) == Err(disk),
-        node_under(keeper) == Err(disk),
-        meta_under(keeper) == Err(disk),
-        keeper.log() == Err(disk),
-        keeper.flush() == Err(disk),
-        keeper.enact() == Err(disk),
-        keeper.clean() == Err(disk),
-        keeper.grow() == Err(disk),
-    ])
+// Which call answers the disk's fault, and is counted, where one is to; none where that isn't one alone.
+fn failed(alloc: Global, failing: KeeperCall) -> Result<Option<KeeperCall>, OutOfMemory> {
+    let mut keeper = MapKeeper::new(alloc);
+    let mut found = None;
+    let mut number = 0u64;
+    for call in CALLS {
+        if call == failing {
+            keeper.fail_at(number)?;
+        }
+        number = number.saturating_add(1);
+    }
+    for call in CALLS {
+        if answer(alloc, &mut keeper, call) == Err(KeepFault::Disk) {
+            found = Some(call);
+        }
+    }
+    Ok(if keeper.faults() == 1 { found } else { None })
 }
 
-// The first byte of the node under the key 1.
-fn node_under(keeper: &mut MapKeeper) -> Result<Option<u8>, KeepFault> {
-    Ok(first_byte(keeper.node(&NodeHash([1; 32]))?))
+// The answer of a call, of a stage with what it says.
+fn answer(alloc: Global, keeper: &mut MapKeeper, call: KeeperCall) -> Result<Option<StageAnswer>, KeepFault> {
+    Ok(match call {
+        KeeperCall::Node => {
+            let _ = keeper.node(&NodeHash([1; 32]))?;
+            None
+        }
+        KeeperCall::Meta => {
+            let _ = keeper.meta(&[1])?;
+            None
+        }
+        KeeperCall::Commit => {
+            let _ = keeper.commit(Ops::new(alloc))?;
+            None
+        }
+        KeeperCall::Log => Some(StageAnswer::Logged(keeper.log()?)),
+        KeeperCall::Flush => Some(StageAnswer::Flushed(keeper.flush()?)),
+        KeeperCall::Enact => Some(StageAnswer::Enacted(keeper.enact()?)),
+        KeeperCall::Clean => Some(StageAnswer::Cleaned(keeper.clean()?)),
+        KeeperCall::Grow => Some(StageAnswer::Grown(keeper.grow()?)),
+    })
 }
 
-// The first byte under the plain key 1.
-fn meta_under(keeper: &mut MapKeeper) -> Result<Option<u8>, KeepFault> {
-    Ok(first_byte(keeper.meta(&[1])?))
+// What is held under the key 1 after one commit of the operations.
+fn held_after_one(alloc: Global, steps: &[Step]) -> Result<(Option<u8>, Option<u8>), Fail> {
+    let mut keeper = MapKeeper::new(alloc);
+    let _ = keeper.commit(ops(alloc, steps)?)?;
+    held(&mut keeper)
+}
+
+// What is held under the key 1 after a commit of each operation.
+fn held_after_each(alloc: Global, steps: &[Step]) -> Result<(Option<u8>, Option<u8>), Fail> {
+    let mut keeper = MapKeeper::new(alloc);
+    for step in steps {
+        let _ = keeper.commit(one(alloc, step)?)?;
+    }
+    held(&mut keeper)
+}
+
+// The first byte of the node, and of the bytes, under the key 1.
+fn held(keeper: &mut MapKeeper) -> Result<(Option<u8>, Option<u8>), Fail> {
+    let node = keeper.node(&NodeHash([1; 32]))?;
+    let meta = keeper.meta(&[1])?;
+    Ok((first_byte(node), first_byte(meta)))
 }
 
 fn first_byte(bytes: Option<Bytes>) -> Option<u8> {
@@ -173,22 +224,18 @@ fn op(alloc: Global, step: &Step) -> Result<Op, OutOfMemory>
             key: Bytes::from_slice(alloc, &[*key])?,
             bytes: Bytes::from_slice(alloc, &[*byte])?,
         },
+        Fill(key, byte, len) => Op::Put {
+            key: Bytes::from_slice(alloc, &[*key])?,
+            bytes: filled(alloc, *byte, *len)?,
+        },
         Erase(key) => Op::Erase {
             key: Bytes::from_slice(alloc, &[*key])?,
         },
     })
 }
 
-// A node, so many bytes under the key 1, each of them 5, and no key 2.
-fn with_length(alloc: Global, len: usize) -> Result<Ops, OutOfMemory>
-    ensures { IfOk result (All HasShortKey) }
-{
+fn filled(alloc: Global, byte: u8, len: usize) -> Result<Bytes, OutOfMemory> {
     let mut bytes = Vec::new(alloc);
-    bytes.resize(len, 5u8)?;
-    let mut ops = ops(alloc, &[Add(1, 4)])?;
-    let key = Bytes::from_slice(alloc, &[1])?;
-    let bytes = Bytes::from_vec(bytes);
-    ops.push(Op::Put { key, bytes })?;
-    ops.push(op(alloc, &Erase(2))?)?;
-    Ok(ops)
+    bytes.resize(len, byte)?;
+    Ok(Bytes::from_vec(bytes))
 }

@@ -4,16 +4,16 @@ use Rattle.std.specs.BTreeMap.{get}
 use Rattle.std.specs.Cmp.Lexicographic.{slice_cmp}
 use Rattle.std.specs.Ordering.{nat_cmp}
 use Rattle.sdb_base.specs.Content.{Counted, meta_from, node_from}
-use Rattle.sdb_base.specs.Holding.{hash_cmp, held}
+use Rattle.sdb_base.specs.Holding.{hash_cmp, held_at}
 use Rattle.sdb_base.specs.declared.columns.Columns.{Columns}
 use Rattle.sdb_base.specs.declared.op.Op.{Op}
 use Rattle.sdb_base.specs.declared.op.Op.TheVariants.{AddRef, DropRef, Put, Erase}
 
 abbrev pub node_in : Columns → List ℕ → Option Counted
-node_in c key = held (get hash_cmp c.nodes.places (record { 0 = key }))
+node_in c key = held_at (get hash_cmp c.nodes.places (record { 0 = key }))
 
 abbrev pub meta_in : Columns → List ℕ → Option Counted
-meta_in c key = held (get (slice_cmp nat_cmp) c.metas.places key)
+meta_in c key = held_at (get (slice_cmp nat_cmp) c.metas.places key)
 
 -- the second has what the operations make of the first
 pub record AreApplied (a : Columns) (ops : List Op) (b : Columns) : Type 0 where
