@@ -1,5 +1,5 @@
 -- How operations change columns in memory.
-use Rattle.std.proofs.Common.{◌≡◌, ◌∷◌, ◌++◌, [], ℕ, suc, ◌+◌, ◌<◌, Bool, true, false, cond, List, Option, length, get_or, take, drop, refl, sym, ap, ◌∙◌, arith, add-one}
+use Rattle.std.proofs.Common.{◌≡◌, ◌∷◌, [], ℕ, suc, ◌+◌, ◌<◌, Bool, true, false, cond, List, Option, length, get_or, take, drop, refl, sym, ap, ◌∙◌, arith, add-one}
 use Rattle.std.specs.Prelude.{All}
 use Rattle.std.specs.BTreeMap.{BTreeMap, get}
 use Rattle.std.specs.Cmp.Lexicographic.{slice_cmp}
@@ -31,7 +31,7 @@ chosen false f x y same = refl
 pub node_changed : (m n : BTreeMap NodeHash (Option Stored)) (k : NodeHash) (f : Option Counted → Option Counted)
     → HoldsAt hash_cmp m k (f (held_at (get hash_cmp m k))) n → (key : List ℕ)
     → held_at (get hash_cmp n (record { 0 = key }))
-        ≡ cond (bytes_eq k.0 key) (f (held_at (get hash_cmp m (record { 0 = key })))) (held_at (get hash_cmp m (record { 0 = key })))
+    ≡ cond (bytes_eq k.0 key) (f (held_at (get hash_cmp m (record { 0 = key })))) (held_at (get hash_cmp m (record { 0 = key })))
 node_changed m n k f after key =
     let there = held_at (get hash_cmp m (record { 0 = key })) in
     let here = held_at (get hash_cmp m k) in

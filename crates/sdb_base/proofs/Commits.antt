@@ -1,8 +1,8 @@
 -- The operations of one commit more.
-use Rattle.std.proofs.Common.{◌≡◌, ◌∷◌, ◌++◌, [], List, ℕ, ◌+◌, Option, None, length, ap, sym, ◌∙◌, length-append}
+use Rattle.std.proofs.Common.{◌≡◌, ◌∷◌, ◌++◌, [], List, ℕ, ◌+◌, None, length, ap, sym, ◌∙◌, length-append}
 use Rattle.std.proofs.lemmas.Grind.{flat_map-append}
 use Rattle.std.proofs.lemmas.List.{append-nil}
-use Rattle.sdb_base.specs.Content.{Counted, meta_from, meta_under, node_from, node_under}
+use Rattle.sdb_base.specs.Content.{meta_from, meta_under, node_from, node_under}
 use Rattle.sdb_base.specs.Keeping.{Commits, operations}
 use Rattle.sdb_base.specs.declared.op.Op.{Op}
 use Rattle.sdb_base.proofs.Orders.{meta_from-append, node_from-append}

@@ -1,5 +1,5 @@
 -- The records of a pipeline in which each commit has its own.
-use Rattle.std.proofs.Common.{◌≡◌, ◌∷◌, ◌++◌, [], ℕ, zero, suc, ◌+◌, ◌<◌, Option, Some, length, get_or, refl, ap, sym, subst, ◌∙◌, arith, add-one, length-append, ⊎_elim}
+use Rattle.std.proofs.Common.{◌≡◌, ◌∷◌, ◌++◌, [], ℕ, zero, suc, ◌+◌, ◌<◌, Some, length, get_or, refl, ap, sym, subst, ◌∙◌, arith, length-append, ⊎_elim}
 use Rattle.std.specs.Prelude.{slice_get}
 use Rattle.std.proofs.Math.Seq.{get_or-append_seam}
 use Rattle.std.proofs.lemmas.Bool.{cases_eq}
@@ -20,9 +20,9 @@ item (suc n) i lt =
     let len = up_to_length n in
     ⊎_elim
     (λ e. subst (λ (k : ℕ). get_or (up_to n ++ suc n ∷ []) k 0 ≡ k + 1) (len ∙ sym e)
-        (get_or-append_seam (up_to n) (suc n) [] 0 ∙ omega arith))
+    (get_or-append_seam (up_to n) (suc n) [] 0 ∙ omega arith))
     (λ ne. let below : i < length (up_to n) = omega arith in
-        get_or_append_left (up_to n) (suc n ∷ []) 0 i below ∙ item n i (omega arith))
+    get_or_append_left (up_to n) (suc n ∷ []) 0 i below ∙ item n i (omega arith))
     (cases_eq i n)
 
 -- the record at a place is of one commit more than the place

@@ -78,7 +78,10 @@ fn columns_hold_what_operations_leave(rt: HostRuntime) -> Result<(), Fail> {
 #[test]
 fn a_value_that_is_too_long_refuses_its_commit(rt: HostRuntime) -> Result<(), Fail> {
     let mut keeper = MapKeeper::new(rt.alloc());
-    assert_eq!(rt; keeper.commit(ops(rt.alloc(), &[Add(1, 4), Add(1, 4)])?), Ok(1));
+    assert_eq!(rt;
+        keeper.commit(ops(rt.alloc(), &[Add(1, 4), Add(1, 4)])?),
+        Ok(1)
+    );
     let refused = Err(KeepFault::ValueTooLong { len: 8_388_609 });
     for (len, byte, want, left) in [
         (8_388_607, 5, Ok(2), (Some(4), Some(5))),
@@ -142,7 +145,11 @@ fn failed(alloc: Global, failing: KeeperCall) -> Result<Option<KeeperCall>, OutO
 }
 
 // The answer of a call, of a stage with what it says.
-fn answer(alloc: Global, keeper: &mut MapKeeper, call: KeeperCall) -> Result<Option<StageAnswer>, KeepFault> {
+fn answer(
+    alloc: Global,
+    keeper: &mut MapKeeper,
+    call: KeeperCall,
+) -> Result<Option<StageAnswer>, KeepFault> {
     Ok(match call {
         KeeperCall::Node => {
             let _ = keeper.node(&NodeHash([1; 32]))?;

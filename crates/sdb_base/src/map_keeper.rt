@@ -1,11 +1,10 @@
-ghost use Rattle.std.specs.Prelude.{◌≡◌, ◌≤◌, ◌+◌, ◌-◌, ◌^◌, ◌++◌, ◌∷◌, ◌↔◌, ◌⊎◌, [], ℕ, List, length, All, Option, Some, None, OnOk, OnErr, IfOk, IfErr, IsTrue};
+ghost use Rattle.std.specs.Prelude.{◌≡◌, ◌≤◌, ◌+◌, ◌++◌, ◌∷◌, ◌↔◌, [], length, All, OnOk, OnErr, IfOk, IfErr, IsTrue};
 ghost use Rattle.std.specs.Option.{option_map};
 ghost use Rattle.sdb_io.specs.Faults.{CountsFault};
 ghost use Rattle.sdb_base.specs.Content.{Counted, meta_under, node_under};
-ghost use Rattle.sdb_base.specs.Keeping.{Commits, HasShortKey, IsCause, IsCommitCause, IsMetaAnswer, IsNodeAnswer, disk_failed, most_in_kept_value, most_in_plain_key, operations};
+ghost use Rattle.sdb_base.specs.Keeping.{Commits, HasShortKey, IsCause, IsCommitCause, IsMetaAnswer, IsNodeAnswer, disk_failed, most_in_plain_key, operations};
 ghost use Rattle.sdb_base.specs.MapKeeping.{AddsCommits, CountsCall, FailsNext, IsRefusalOf, KeepsCommits, NeverFalls, failed_keeper_calls, first_too_long, keeper_calls, keeper_calls_to_fail, kept_meta, kept_node, kept_pipeline, value_length};
 ghost use Rattle.sdb_base.specs.Pipeline.{StepsUncrowded, with_commit};
-ghost use Rattle.sdb_base.specs.declared.numbers.KeepFault.{KeepFault};
 ghost use Rattle.sdb_base.specs.declared.numbers.KeepFault.TheVariants as faults;
 ghost use Rattle.sdb_base.specs.declared.numbers.StageAnswer.TheVariants as answers;
 

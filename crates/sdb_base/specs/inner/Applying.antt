@@ -1,5 +1,5 @@
 -- How operations change the columns in memory.
-use Rattle.std.specs.Prelude.{◌≡◌, ℕ, List, Option, IsSome, Contains, All}
+use Rattle.std.specs.Prelude.{◌≡◌, ℕ, List, Option, IsSome}
 use Rattle.std.specs.BTreeMap.{get}
 use Rattle.std.specs.Cmp.Lexicographic.{slice_cmp}
 use Rattle.std.specs.Ordering.{nat_cmp}

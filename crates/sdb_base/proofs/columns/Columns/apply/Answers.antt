@@ -1,7 +1,7 @@
 use Rattle.std.proofs.Common.{Some, ap, sym, ◌∙◌}
 use Rattle.sdb_base.specs.Content.{meta_after, node_after, with_reference, without_reference}
 use Rattle.sdb_base.specs.inner.Applying.{meta_in, node_in}
-use Rattle.sdb_base.specs.declared.op.Op.TheVariants.{AddRef, DropRef, Put, Erase}
+use Rattle.sdb_base.specs.declared.op.Op.TheVariants.{AddRef, Put}
 use Rattle.sdb_base.proofs.Applying.{meta_changed, node_changed, places_stay}
 use Rattle.sdb_base.proofs.columns.Columns.apply.Goals as goal
 

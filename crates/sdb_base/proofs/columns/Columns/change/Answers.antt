@@ -1,4 +1,4 @@
-use Rattle.std.proofs.Common.{◌≡◌, ap, subst, sym, ◌∙◌}
+use Rattle.std.proofs.Common.{◌≡◌, subst, ◌∙◌}
 use Rattle.std.proofs.lemmas.Result.{on_err_weaker, on_ok_weaker}
 use Rattle.sdb_base.specs.inner.Applying.{AreApplied}
 use Rattle.sdb_base.proofs.Applying.{applied_between, same_itself, same_on}
