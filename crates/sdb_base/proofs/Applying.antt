@@ -37,7 +37,8 @@ node_changed m n k f after key =
     let here = held_at (get hash_cmp m k) in
     after (record { 0 = key })
     ∙ ap (λ t. cond t (f here) there) (is_eq-slice_cmp k.0 key)
-    ∙ chosen (bytes_eq k.0 key) f here there (λ e. ap (λ (q : List ℕ). held_at (get hash_cmp m (record { 0 = q }))) ((bytes_eq-Decides k.0 key).0 e))
+    ∙ chosen (bytes_eq k.0 key) f here there
+    (λ e. ap (λ (q : List ℕ). held_at (get hash_cmp m (record { 0 = q }))) ((bytes_eq-Decides k.0 key).0 e))
 
 -- what column 1 holds after a change at one key
 pub meta_changed : (m n : BTreeMap (List ℕ) (Option Stored)) (k : List ℕ) (w : Option Counted)
@@ -95,10 +96,12 @@ applied_more a b c ops i d lt h nodes metas =
 -- one place more
 pub places_more : (a b : Columns) (ops : List Op) (i : ℕ) (d : Op) → i < length ops → PlacesStay a b → All (HasPlace a) (take i ops)
     → HasPlace b (get_or ops i d) → All (HasPlace b) (take (i + 1) ops)
-places_more a b ops i d lt stay before here = All-more (HasPlace b) ops i d lt (All-weaker (HasPlace a) (HasPlace b) stay (take i ops) before) here
+places_more a b ops i d lt stay before here =
+    All-more (HasPlace b) ops i d lt (All-weaker (HasPlace a) (HasPlace b) stay (take i ops) before) here
 
 -- lists that agree from a place on have the same item there
-pub item_same : (xs ys : List Op) (i : ℕ) (d : Op) → i < length xs → length xs ≡ length ys → drop i xs ≡ drop i ys → get_or xs i d ≡ get_or ys i d
+pub item_same : (xs ys : List Op) (i : ℕ) (d : Op) → i < length xs → length xs ≡ length ys → drop i xs ≡ drop i ys
+    → get_or xs i d ≡ get_or ys i d
 item_same xs ys i d lt same rest =
     let m : i < length ys = omega arith in
     let a = drop-cons xs i d lt in

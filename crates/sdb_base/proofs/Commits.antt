@@ -14,12 +14,14 @@ operations_more commits ops =
 pub node_more : (commits : Commits) (ops : List Op) (key : List ℕ)
     → node_from key (node_under (operations commits) key) ops ≡ node_under (operations (commits ++ ops ∷ [])) key
 node_more commits ops key =
-    sym (node_from-append key None (operations commits) ops) ∙ ap (λ (all : List Op). node_under all key) (sym (operations_more commits ops))
+    sym (node_from-append key None (operations commits) ops)
+    ∙ ap (λ (all : List Op). node_under all key) (sym (operations_more commits ops))
 
 pub meta_more : (commits : Commits) (ops : List Op) (key : List ℕ)
     → meta_from key (meta_under (operations commits) key) ops ≡ meta_under (operations (commits ++ ops ∷ [])) key
 meta_more commits ops key =
-    sym (meta_from-append key None (operations commits) ops) ∙ ap (λ (all : List Op). meta_under all key) (sym (operations_more commits ops))
+    sym (meta_from-append key None (operations commits) ops)
+    ∙ ap (λ (all : List Op). meta_under all key) (sym (operations_more commits ops))
 
 pub count_more : (commits : Commits) (ops : List Op) → length (commits ++ ops ∷ []) ≡ length commits + 1
 count_more commits ops = length-append commits (ops ∷ [])

@@ -37,7 +37,8 @@ impl<K: Ord + TryCopy> Column<K> {
 
     /// The bytes under a key.
     pub(crate) fn get(&self, key: &K) -> Option<&Bytes>
-        ensures { option_copied result ≡ option_map (λ (c : Counted). c.bytes) (held_at (get K.cmp self.now.places key.now)) }
+        ensures { option_copied result
+            ≡ option_map (λ (c : Counted). c.bytes) (held_at (get K.cmp self.now.places key.now)) }
     {
         match self.places.get(key) {
             Some(Some(stored)) => Some(&stored.bytes),
@@ -60,7 +61,8 @@ impl<K: Ord + TryCopy> Column<K> {
     /// Adds a reference to a key that has a place.
     pub(crate) fn add(&mut self, key: &K, bytes: Bytes)
         requires { IsSome (get K.cmp self.old.places key.now) }
-        ensures holds { HoldsAt K.cmp self.old.places key.now (with_reference bytes (held_at (get K.cmp self.old.places key.now))) self.new.places }
+        ensures holds { HoldsAt K.cmp self.old.places key.now
+            (with_reference bytes (held_at (get K.cmp self.old.places key.now))) self.new.places }
         ensures stay { KeepsPlaces K.cmp self.old.places self.new.places }
     {
         if let Some(place) = self.places.get_mut(key) {
@@ -70,7 +72,8 @@ impl<K: Ord + TryCopy> Column<K> {
 
     /// Takes a reference from a key.
     pub(crate) fn release(&mut self, key: &K)
-        ensures holds { HoldsAt K.cmp self.old.places key.now (without_reference (held_at (get K.cmp self.old.places key.now))) self.new.places }
+        ensures holds { HoldsAt K.cmp self.old.places key.now
+            (without_reference (held_at (get K.cmp self.old.places key.now))) self.new.places }
         ensures stay { KeepsPlaces K.cmp self.old.places self.new.places }
     {
         if let Some(place) = self.places.get_mut(key) {

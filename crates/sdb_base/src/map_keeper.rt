@@ -34,7 +34,8 @@ impl MapKeeper {
     /// A keeper without commits.
     pub fn new(alloc: Global) -> MapKeeper
         ensures stands { KeepsCommits result [] }
-        ensures numbers { (kept_pipeline result).numbers ≡ record { accepted = 0; logged = 0; flushed = 0; enacted = 0; cleaned = 0 } }
+        ensures numbers { (kept_pipeline result).numbers
+            ≡ record { accepted = 0; logged = 0; flushed = 0; enacted = 0; cleaned = 0 } }
         ensures steady { keeper_calls_to_fail result ≡ [] }
         ensures calls { keeper_calls result ≡ 0 }
         ensures faults { failed_keeper_calls result ≡ 0 }
@@ -88,7 +89,8 @@ impl Keeper for MapKeeper {
     /// fails `OutOfMemory`.
     fn node(&mut self, key: &NodeHash) -> Result<Option<Bytes>, KeepFault>
         ensures bytes { IfOk result (λ r. r ≡ option_map (λ (c : Counted). c.bytes) (kept_node self.old key.now.0)) }
-        ensures answer { (commits : Commits) → KeepsCommits self.old commits → IfOk result (IsNodeAnswer commits key.now.0 (node_under (operations commits) key.now.0)) }
+        ensures answer { (commits : Commits) → KeepsCommits self.old commits
+            → IfOk result (IsNodeAnswer commits key.now.0 (node_under (operations commits) key.now.0)) }
         ensures stands { (commits : Commits) → KeepsCommits self.old commits → KeepsCommits self.new commits }
         ensures later { (commits : Commits) → KeepsCommits self.old commits → AddsCommits self.old commits self.new commits }
         ensures pipeline { kept_pipeline self.new ≡ kept_pipeline self.old }
@@ -109,7 +111,8 @@ impl Keeper for MapKeeper {
     fn meta(&mut self, key: &[u8]) -> Result<Option<Bytes>, KeepFault>
         requires { length key.now ≤ most_in_plain_key }
         ensures bytes { IfOk result (λ r. r ≡ option_map (λ (c : Counted). c.bytes) (kept_meta self.old key.now)) }
-        ensures answer { (commits : Commits) → KeepsCommits self.old commits → IfOk result (IsMetaAnswer (meta_under (operations commits) key.now)) }
+        ensures answer { (commits : Commits) → KeepsCommits self.old commits
+            → IfOk result (IsMetaAnswer (meta_under (operations commits) key.now)) }
         ensures stands { (commits : Commits) → KeepsCommits self.old commits → KeepsCommits self.new commits }
         ensures later { (commits : Commits) → KeepsCommits self.old commits → AddsCommits self.old commits self.new commits }
         ensures pipeline { kept_pipeline self.new ≡ kept_pipeline self.old }
@@ -131,10 +134,14 @@ impl Keeper for MapKeeper {
     /// 2^64 - 1 commits were accepted.
     fn commit(&mut self, ops: Ops) -> Result<u64, KeepFault>
         requires { All HasShortKey ops }
-        ensures accepted { (commits : Commits) → KeepsCommits self.old commits → OnOk result (KeepsCommits self.new (commits ++ ops ∷ [])) }
-        ensures accepted_later { (commits : Commits) → KeepsCommits self.old commits → OnOk result (AddsCommits self.old commits self.new (commits ++ ops ∷ [])) }
-        ensures refused { (commits : Commits) → KeepsCommits self.old commits → OnErr result (KeepsCommits self.new commits) }
-        ensures refused_later { (commits : Commits) → KeepsCommits self.old commits → OnErr result (AddsCommits self.old commits self.new commits) }
+        ensures accepted { (commits : Commits) → KeepsCommits self.old commits
+            → OnOk result (KeepsCommits self.new (commits ++ ops ∷ [])) }
+        ensures accepted_later { (commits : Commits) → KeepsCommits self.old commits
+            → OnOk result (AddsCommits self.old commits self.new (commits ++ ops ∷ [])) }
+        ensures refused { (commits : Commits) → KeepsCommits self.old commits
+            → OnErr result (KeepsCommits self.new commits) }
+        ensures refused_later { (commits : Commits) → KeepsCommits self.old commits
+            → OnErr result (AddsCommits self.old commits self.new commits) }
         ensures number { IfOk result (λ n. n ≡ (kept_pipeline self.old).numbers.accepted + 1) }
         ensures pipeline { OnOk result (kept_pipeline self.new ≡ with_commit (kept_pipeline self.old)) }
         ensures unchanged { OnErr result (kept_pipeline self.new ≡ kept_pipeline self.old) }

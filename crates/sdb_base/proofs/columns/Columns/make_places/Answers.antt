@@ -11,7 +11,8 @@ returns-in_err-make_place-clause-same c =
 pub loop-op-preserved : goal.loop-op-preserved
 loop-op-preserved c = record {
   made = places_more c.loop-op.self c.make_place.new.self c.args.ops.now c.loop-op.op-index c.op-item.result (omega arith)
-      c.in_ok-make_place.ensures.stay c.loop-op.invariant.made (subst (HasPlace c.make_place.new.self) c.op-item.is c.in_ok-make_place.ensures.made);
+      c.in_ok-make_place.ensures.stay c.loop-op.invariant.made
+      (subst (HasPlace c.make_place.new.self) c.op-item.is c.in_ok-make_place.ensures.made);
   same = same_on c.args.self.now c.loop-op.self c.make_place.new.self c.loop-op.invariant.same c.in_ok-make_place.ensures.same;
 }
 

@@ -14,9 +14,12 @@ returns-in-Some-clause-cause c =
 
 pub returns-in-Ok-clause-accepted : goal.returns-in-Ok-clause-accepted
 returns-in-Ok-clause-accepted c commits stands = record {
-  nodes = λ key. c.in-Ok.ensures.ok.nodes key ∙ ap (λ now. node_from key now c.args.ops) (stands.nodes key) ∙ node_more commits c.args.ops key;
-  metas = λ key. c.in-Ok.ensures.ok.metas key ∙ ap (λ now. meta_from key now c.args.ops) (stands.metas key) ∙ meta_more commits c.args.ops key;
-  count = ap (λ (p : Pipeline). p.numbers.accepted) c.accept.ensures.accepted ∙ ap (λ n. n + 1) stands.count ∙ sym (count_more commits c.args.ops);
+  nodes = λ key. c.in-Ok.ensures.ok.nodes key
+      ∙ ap (λ now. node_from key now c.args.ops) (stands.nodes key) ∙ node_more commits c.args.ops key;
+  metas = λ key. c.in-Ok.ensures.ok.metas key
+      ∙ ap (λ now. meta_from key now c.args.ops) (stands.metas key) ∙ meta_more commits c.args.ops key;
+  count = ap (λ (p : Pipeline). p.numbers.accepted) c.accept.ensures.accepted
+      ∙ ap (λ n. n + 1) stands.count ∙ sym (count_more commits c.args.ops);
 }
 
 pub returns-in-Err-clause-refused : goal.returns-in-Err-clause-refused
