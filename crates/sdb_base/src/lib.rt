@@ -11,14 +11,19 @@
 mod block;
 mod bytes;
 mod change;
+mod column;
+mod columns;
 mod items;
 mod keeper;
 mod laws;
+mod map_keeper;
 mod nibbles;
 mod node;
 mod numbers;
 mod op;
 mod pair;
+mod plan;
+mod progress;
 
 pub use block::{Block, BlockId, Prepared};
 pub use bytes::{ByteString, Bytes};
@@ -26,6 +31,7 @@ pub use change::{Change, Changes};
 pub use items::{Items, Sequence, TryCopy, Typed};
 pub use keeper::{Keeper, Stages};
 pub use laws::{known_contents, operations_apply_in_order};
+pub use map_keeper::MapKeeper;
 pub use nibbles::{NibbleString, Nibbles};
 pub use node::{HashList, Node, NodeHash, NodeList};
 pub use numbers::{Counter, Grown, KeepFault, KeeperCall, Logged, Numbers, StageAnswer};
@@ -41,5 +47,7 @@ pub type Keys = Items<Bytes>;
 /// A call found no memory.
 pub type OutOfMemory = std::alloc::AllocError;
 
+#[cfg(test)]
+mod keeper_tests;
 #[cfg(test)]
 mod tests;

@@ -1,0 +1,7 @@
+use Rattle.std.proofs.Common.{◌≡◌, drop}
+use Rattle.sdb_base.specs.MapKeeping.{first_too_long}
+use Rattle.sdb_base.proofs.map_keeper.too_long.Given as goal
+
+-- the operations so far have no such value
+abbrev pub invariant-loop-op : goal.invariant-loop-op
+invariant-loop-op l = first_too_long l.ops ≡ first_too_long (drop l.op-index l.ops)
