@@ -11,3 +11,7 @@ pub mod Ways
 pub mod Descents
 pub mod Followed
 pub mod NextStage
+pub mod PartSteps
+pub mod Depths
+pub mod Standing
+pub mod PartsOfNodes

@@ -13,6 +13,7 @@
 mod descent;
 mod fault;
 mod laws;
+mod parts;
 mod read_job;
 
 pub use fault::TrieFault;

@@ -1,0 +1,112 @@
+-- What a node has, and the inline nodes in it, in the order of keys.
+use Rattle.std.specs.Prelude.{◌≡◌, ℕ, zero, suc, ◌+◌, ◌*◌, ◌%◌, ◌==◌, ◌&&◌, ◌||◌, nat_eq, true, Bool, List, [], ◌∷◌, ◌++◌, length, map, filter, reverse, slice_index_or, Option, Some, None, if◌then◌else◌, Result, Ok, Err}
+use Rattle.std.specs.List.{AllByRecursion, flat_map, starts_with}
+use Rattle.sdb_blake2.specs.Blake2b.{H}
+use Rattle.trie_model.specs.Node.{Node, spelling}
+use Rattle.trie_model.specs.Nodes.{PathNode, is_stored, nodes_over}
+use Rattle.trie_model.specs.Trie.{Suffix, below, every_nibble, levels_of}
+use Rattle.trie_codec.specs.Reading.{node_of_bytes}
+use Rattle.trie_codec.specs.declared.fault.CodecFault.{CodecFault}
+use Rattle.trie_read.specs.Paths.{node_at}
+use Rattle.trie_read.specs.inner.Following.{head_at}
+use Rattle.trie_read.specs.declared.parts.Part.{Part}
+use Rattle.trie_read.specs.declared.parts.Part.TheVariants as part
+use Rattle.trie_read.specs.declared.parts.Sought.{Sought}
+use Rattle.trie_read.specs.declared.parts.Sought.TheVariants.{Beginning}
+use Rattle.trie_read.specs.declared.parts.Stored.{Stored}
+
+-- a key, or a stored node by its hash and its path
+pub data Piece : Type 0 where
+  OfKey : List ℕ → Piece
+  OfNode : List ℕ → List ℕ → Piece
+
+abbrev pub part_of : Part → Piece
+part_of (part.Key key) = OfKey key
+part_of (part.Node stored) = OfNode stored.hash.0 stored.path.items
+
+abbrev pub parts_of : List Part → List Piece
+parts_of parts = map part_of parts
+
+-- the stored node that comes next, if there is one
+abbrev pub part_of_next : Option Stored → List Piece
+part_of_next None = []
+part_of_next (Some stored) = OfNode stored.hash.0 stored.path.items ∷ []
+
+-- the bytes of nibbles, two to a byte; a last one alone is left out
+abbrev pub key_of_nibbles : List ℕ → List ℕ
+key_of_nibbles [] = []
+key_of_nibbles (n ∷ []) = []
+key_of_nibbles (n ∷ (k ∷ ns)) = (16 * (n % 16) + k % 16) ∷ key_of_nibbles ns
+
+-- ---- which keys are sought
+
+-- whether a path leads to nibbles, or goes on with them
+abbrev pub is_near : List ℕ → List ℕ → Bool
+is_near nibbles path = starts_with nat_eq nibbles path || starts_with nat_eq path nibbles
+
+-- whether a key of these nibbles is sought, and whether one below a path can be
+abbrev pub keeps_of : Sought → List ℕ → Bool
+keeps_of (Beginning prefix) key = starts_with nat_eq key prefix.now
+
+abbrev pub goes_of : Sought → List ℕ → Bool
+goes_of (Beginning prefix) path = is_near prefix.now path
+
+-- ---- of one node
+
+abbrev pub own_parts : (List ℕ → Bool) → List ℕ → Option (List ℕ) → List Piece
+own_parts keeps key None = []
+own_parts keeps key (Some value) = if keeps key then OfKey (key_of_nibbles key) ∷ [] else []
+
+abbrev pub inline_parts : (Node → List Piece) → Result Node CodecFault → List Piece
+inline_parts go (Ok n) = go n
+inline_parts go (Err f) = []
+
+abbrev pub parts_there : (Node → List ℕ → List Piece) → List ℕ → Option (List ℕ) → List Piece
+parts_there go path None = []
+parts_there go path (Some c) = if length c == 32 then OfNode c path ∷ [] else inline_parts (λ n. go n path) (node_of_bytes c)
+
+abbrev pub child_parts : (List ℕ → Bool) → (Node → List ℕ → List Piece) → List ℕ → Option (List ℕ) → List Piece
+child_parts goes go path c = if goes path then parts_there go path c else []
+
+-- with at most so many inline nodes one below the other
+unfoldable pub parts_in : (List ℕ → Bool) → (List ℕ → Bool) → ℕ → Node → List ℕ → List Piece
+parts_in keeps goes zero n path = []
+parts_in keeps goes (suc levels) n path =
+    own_parts keeps (path ++ n.partial) n.value
+    ++ flat_map (λ i. child_parts goes (parts_in keeps goes levels) ((path ++ n.partial) ++ i ∷ []) (slice_index_or n.children i None)) every_nibble
+
+-- ---- what parts stand for
+
+-- the sought keys of suffixes that hang at a path, and the stored nodes over them that can lead to one
+abbrev pub keys_under : (List ℕ → Bool) → List ℕ → List Suffix → List (List ℕ)
+keys_under keeps path suffixes = map (λ (s : Suffix). key_of_nibbles (path ++ s.0)) (filter (λ (s : Suffix). keeps (path ++ s.0)) suffixes)
+
+abbrev pub gone_into : (List ℕ → Bool) → List PathNode → List PathNode
+gone_into goes nodes = filter (λ (n : PathNode). goes n.path) (filter is_stored nodes)
+
+abbrev pub nodes_under : (List ℕ → Bool) → List ℕ → List Suffix → List PathNode
+nodes_under goes path suffixes = gone_into goes (nodes_over (levels_of suffixes) path suffixes)
+
+abbrev pub keys_for : List Suffix → (List ℕ → Bool) → Piece → List (List ℕ)
+keys_for suffixes keeps (OfKey key) = key ∷ []
+keys_for suffixes keeps (OfNode hash path) = keys_under keeps path (below path suffixes)
+
+abbrev pub nodes_for : List Suffix → (List ℕ → Bool) → Piece → List PathNode
+nodes_for suffixes goes (OfKey key) = []
+nodes_for suffixes goes (OfNode hash path) = nodes_under goes path (below path suffixes)
+
+-- the part of a node is that of a stored one
+pub record IsStored (suffixes : List Suffix) (goes : List ℕ → Bool) (hash path : List ℕ) : Type 0 where
+  pub is_hash : hash ≡ H (spelling (node_at suffixes path))
+  pub stored : is_stored (head_at suffixes path) ≡ true
+  pub near : goes path ≡ true
+
+abbrev pub IsPart : List Suffix → (List ℕ → Bool) → Piece → Type 0
+IsPart suffixes goes (OfKey key) = Unit {0}
+IsPart suffixes goes (OfNode hash path) = IsStored suffixes goes hash path
+
+-- parts that stand for these keys and these nodes
+pub record StandFor (suffixes : List Suffix) (keeps goes : List ℕ → Bool) (parts : List Piece) (ks : List (List ℕ)) (ns : List PathNode) : Type 0 where
+  pub sound : AllByRecursion (IsPart suffixes goes) parts
+  pub keys : flat_map (keys_for suffixes keeps) parts ≡ ks
+  pub nodes : flat_map (nodes_for suffixes goes) parts ≡ ns
