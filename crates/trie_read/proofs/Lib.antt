@@ -15,3 +15,7 @@ pub mod PartSteps
 pub mod Depths
 pub mod Standing
 pub mod PartsOfNodes
+pub mod Turned
+pub mod KeysInNibbles
+pub mod OneFed
+pub mod WalkStages

@@ -3,3 +3,4 @@ pub mod Collision
 pub mod Depth
 pub mod inner
 pub mod Reads
+pub mod Walks

@@ -12,9 +12,11 @@
 
 mod descent;
 mod fault;
+mod in_order;
 mod laws;
 mod parts;
 mod read_job;
+mod walk_job;
 
 pub use fault::TrieFault;
 pub use laws::{
@@ -23,6 +25,7 @@ pub use laws::{
     nodes_rise_by_path, puts_and_drops_balance,
 };
 pub use read_job::ReadJob;
+pub use walk_job::WalkJob;
 
 #[cfg(test)]
 mod tests;

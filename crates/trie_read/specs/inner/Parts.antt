@@ -32,6 +32,15 @@ abbrev pub part_of_next : Option Stored → List Piece
 part_of_next None = []
 part_of_next (Some stored) = OfNode stored.hash.0 stored.path.items ∷ []
 
+-- after how many nibbles it hangs
+abbrev pub depth_of : Option Stored → ℕ
+depth_of None = 0
+depth_of (Some stored) = length stored.path.items
+
+-- the parts of keys that were found, of the stored node that comes next, and of what comes after it, the last first
+abbrev pub in_order : List (List ℕ) → Option Stored → List Part → List Piece
+in_order found next later = map OfKey found ++ (part_of_next next ++ parts_of (reverse later))
+
 -- the bytes of nibbles, two to a byte; a last one alone is left out
 abbrev pub key_of_nibbles : List ℕ → List ℕ
 key_of_nibbles [] = []
@@ -40,13 +49,16 @@ key_of_nibbles (n ∷ (k ∷ ns)) = (16 * (n % 16) + k % 16) ∷ key_of_nibbles 
 
 -- ---- which keys are sought
 
--- whether a path leads to nibbles, or goes on with them
+-- whether a path leads to nibbles, or goes on with them; whether a key does
 abbrev pub is_near : List ℕ → List ℕ → Bool
 is_near nibbles path = starts_with nat_eq nibbles path || starts_with nat_eq path nibbles
 
+abbrev pub goes_on_with : List ℕ → List ℕ → Bool
+goes_on_with nibbles key = starts_with nat_eq key nibbles
+
 -- whether a key of these nibbles is sought, and whether one below a path can be
 abbrev pub keeps_of : Sought → List ℕ → Bool
-keeps_of (Beginning prefix) key = starts_with nat_eq key prefix.now
+keeps_of (Beginning prefix) key = goes_on_with prefix.now key
 
 abbrev pub goes_of : Sought → List ℕ → Bool
 goes_of (Beginning prefix) path = is_near prefix.now path
