@@ -28,4 +28,8 @@ pub use read_job::ReadJob;
 pub use walk_job::WalkJob;
 
 #[cfg(test)]
+mod example_nodes;
+#[cfg(test)]
 mod tests;
+#[cfg(test)]
+mod walk_tests;
