@@ -19,3 +19,4 @@ pub mod Turned
 pub mod KeysInNibbles
 pub mod OneFed
 pub mod WalkStages
+pub mod AboveNibbles

@@ -16,7 +16,7 @@ use Rattle.trie_root.specs.Suffixes.{IsEntry}
 use Rattle.trie_root.proofs.Levels.{levels_above_none}
 use Rattle.trie_read.specs.Paths.{node_at}
 use Rattle.trie_read.specs.inner.Following.{Sound, head_at}
-use Rattle.trie_read.specs.inner.Parts.{IsPart, IsStored, OfKey, OfNode, Piece, StandFor, gone_into, in_order, keys_for, keys_under, nodes_for, nodes_under, part_of_next, parts_in, parts_of}
+use Rattle.trie_read.specs.inner.Parts.{IsPiece, IsStored, OfKey, OfNode, Piece, StandFor, gone_into, in_order, keys_for, keys_under, nodes_for, nodes_under, next_piece, parts_in, as_pieces}
 use Rattle.trie_read.specs.declared.parts.Part.{Part}
 use Rattle.trie_read.specs.declared.parts.Stored.{Stored}
 use Rattle.trie_read.proofs.Binding.{sound_state}
@@ -48,14 +48,14 @@ module _ (ss : List Suffix) (keeps goes : List ℕ → Bool) where
   no_nodes_found [] = refl
   no_nodes_found (k ∷ ks) = no_nodes_found ks
 
-  all_found : (ks : List (List ℕ)) → AllByRecursion (IsPart ss goes) (map OfKey ks)
+  all_found : (ks : List (List ℕ)) → AllByRecursion (IsPiece ss goes) (map OfKey ks)
   all_found [] = tt
   all_found (k ∷ ks) = (tt, all_found ks)
 
   -- a stored node that comes next, and the nodes under it
   pub record Ahead (h p : List ℕ) (rest : List Piece) (ns : List PathNode) : Type 0 where
     pub is : IsStored ss goes h p
-    pub sound : AllByRecursion (IsPart ss goes) rest
+    pub sound : AllByRecursion (IsPiece ss goes) rest
     pub under : List PathNode
     pub first : nodes_over (levels_of (below p ss)) p (below p ss) ≡ head_at ss p ∷ under
     pub nodes : ns ≡ head_at ss p ∷ (gone_into goes under ++ flat_map (nodes_for ss goes) rest)
@@ -63,7 +63,7 @@ module _ (ss : List Suffix) (keeps goes : List ℕ → Bool) where
   pub ahead : (ks keys : List (List ℕ)) (h p : List ℕ) (rest : List Piece) (ns : List PathNode) → StandFor ss keeps goes (map OfKey ks ++ (OfNode h p ∷ rest)) keys ns → Ahead h p rest ns
   ahead ks keys h p rest ns s =
       let us : List Suffix = below p ss in
-      let split : AllByRecursion (IsPart ss goes) (map OfKey ks) × AllByRecursion (IsPart ss goes) (OfNode h p ∷ rest) = all_split (IsPart ss goes) (map OfKey ks) (OfNode h p ∷ rest) s.sound in
+      let split : AllByRecursion (IsPiece ss goes) (map OfKey ks) × AllByRecursion (IsPiece ss goes) (OfNode h p ∷ rest) = all_split (IsPiece ss goes) (map OfKey ks) (OfNode h p ∷ rest) s.sound in
       let is : IsStored ss goes h p = split.1.0 in
       let first : (t : List PathNode) × (nodes_over (levels_of us) p us ≡ head_at ss p ∷ t) = first_of (levels_of us) ss p (omega arith) in
       let others : List PathNode = flat_map (nodes_for ss goes) rest in

@@ -18,7 +18,7 @@ use Rattle.trie_root.proofs.ReadOffNibbles.{from, going_on, parts_in_order}
 use Rattle.trie_root.proofs.Rows.{unlike}
 use Rattle.trie_read.specs.Paths.{child_path, node_at}
 use Rattle.trie_read.specs.inner.Following.{Sound, head_at}
-use Rattle.trie_read.specs.inner.Parts.{IsPart, OfKey, OfNode, Piece, StandFor, child_parts, gone_into, inline_parts, key_of_nibbles, keys_under, own_parts, parts_in, parts_there}
+use Rattle.trie_read.specs.inner.Parts.{IsPiece, OfKey, OfNode, Piece, StandFor, child_parts, gone_into, inline_parts, key_of_nibbles, keys_under, own_parts, parts_in, parts_there}
 use Rattle.trie_read.proofs.Binding.{from_path, none_or_some}
 use Rattle.trie_read.proofs.Children.{child_of, partial_of, value_of}
 use Rattle.trie_read.proofs.Depths.{first_over, same_nodes}
@@ -114,7 +114,7 @@ module _ (ss : List Suffix) (keeps goes : List ℕ → Bool) where
       refl
       (ap (gone_into goes) (same_nodes (levels_of us) d q us (omega arith) fits ∙ sym (all_there (nodes_over d q) us some)))
       (record {
-        sound = (record { is_hash = refl; stored = is_kept (head_at ss q) (inr long); near = near }, tt);
+        sound = (record { is_hash = refl; stored = is_kept (head_at ss q) (inr long); near = near; some = inr some }, tt);
         keys = append-nil (keys_under keeps q us);
         nodes = append-nil (gone_into goes (nodes_over (levels_of us) q us));
       })

@@ -9,7 +9,7 @@ use Rattle.trie_model.specs.Nodes.{PathNode, is_stored}
 use Rattle.trie_model.specs.Trie.{Suffix, with_prefix}
 use Rattle.trie_root.proofs.ReadOffNibbles.{from}
 use Rattle.trie_root.proofs.ShapesBytes.{all_joined}
-use Rattle.trie_read.specs.inner.Parts.{IsPart, Piece, StandFor, gone_into, key_of_nibbles, keys_for, keys_under, nodes_for}
+use Rattle.trie_read.specs.inner.Parts.{IsPiece, Piece, StandFor, gone_into, key_of_nibbles, keys_for, keys_under, nodes_for}
 use Rattle.trie_read.proofs.Rising.{StartsWith}
 
 module _ {ss : List Suffix} {keeps goes : List ℕ → Bool} where
@@ -24,7 +24,7 @@ module _ {ss : List Suffix} {keeps goes : List ℕ → Bool} where
   pub stand_joined : (ps qs : List Piece) (ks ls : List (List ℕ)) (ms ns : List PathNode) → StandFor ss keeps goes ps ks ms → StandFor ss keeps goes qs ls ns
       → StandFor ss keeps goes (ps ++ qs) (ks ++ ls) (ms ++ ns)
   stand_joined ps qs ks ls ms ns s t = record {
-    sound = all_joined (IsPart ss goes) ps qs s.sound t.sound;
+    sound = all_joined (IsPiece ss goes) ps qs s.sound t.sound;
     keys = flat_map-append (keys_for ss keeps) ps qs ∙ ap₂ (λ (xs ys : List (List ℕ)). xs ++ ys) s.keys t.keys;
     nodes = flat_map-append (nodes_for ss goes) ps qs ∙ ap₂ (λ (xs ys : List PathNode). xs ++ ys) s.nodes t.nodes;
   }

@@ -1,5 +1,5 @@
 -- From one node that a walk waits for to the next.
-use Rattle.std.proofs.Common.{◌≡◌, ℕ, Bool, true, List, [], ◌∷◌, ◌++◌, map, reverse, Option, Some, None, refl, ap, ap₂, subst, sym, ◌∙◌}
+use Rattle.std.proofs.Common.{◌≡◌, ℕ, Bool, true, List, [], ◌∷◌, ◌++◌, map, reverse, Option, Some, None, refl, ap, ap₂, subst, sym, ◌∙◌, inl}
 use Rattle.std.specs.Prelude.{All}
 use Rattle.std.specs.List.{flat_map}
 use Rattle.std.specs.Option.{option_map}
@@ -16,7 +16,7 @@ use Rattle.trie_model.specs.State.{State}
 use Rattle.trie_model.specs.Trie.{Suffix, below, levels_of, node_of_all, root_node, suffixes_of, trie_root}
 use Rattle.trie_root.specs.Suffixes.{IsEntry}
 use Rattle.trie_read.specs.inner.Following.{head_at}
-use Rattle.trie_read.specs.inner.Parts.{OfKey, OfNode, Piece, StandFor, goes_on_with, gone_into, in_order, is_near, keys_for, keys_under, nodes_for, nodes_under, part_of_next, parts_of}
+use Rattle.trie_read.specs.inner.Parts.{OfKey, OfNode, Piece, StandFor, goes_on_with, gone_into, in_order, is_near, keys_for, keys_under, nodes_for, nodes_under, next_piece, as_pieces}
 use Rattle.trie_read.specs.Walks.{IsWalkStage, IsWalking}
 use Rattle.trie_read.specs.declared.parts.Part.{Part}
 use Rattle.trie_read.specs.declared.parts.Stored.{Stored}
@@ -45,8 +45,8 @@ stage_of j m keeps goes keys todo stand last = next j.wanted refl
         sym stand.nodes ∙ ap (flat_map (nodes_for (suffixes_of m) goes)) (only_keys j.found j.wanted j.later e (last e)) ∙ no_nodes_found (suffixes_of m) keeps goes j.found in
         subst (λ (ns : List PathNode). IsWalkStage j ns) (sym none) (ap (option_map (λ (s : Stored). s.hash.0)) e, last e)
     next (Some s) e =
-        let a : Ahead (suffixes_of m) keeps goes s.hash.0 s.path.items (parts_of (reverse j.later)) todo =
-        ahead (suffixes_of m) keeps goes j.found keys s.hash.0 s.path.items (parts_of (reverse j.later)) todo
+        let a : Ahead (suffixes_of m) keeps goes s.hash.0 s.path.items (as_pieces (reverse j.later)) todo =
+        ahead (suffixes_of m) keeps goes j.found keys s.hash.0 s.path.items (as_pieces (reverse j.later)) todo
         (subst (λ (o : Option Stored). StandFor (suffixes_of m) keeps goes (in_order j.found o j.later) keys todo) e stand) in
         subst (λ (ns : List PathNode). IsWalkStage j ns) (sym a.nodes) (ap (option_map (λ (t : Stored). t.hash.0)) e ∙ ap Some a.is.is_hash)
 
@@ -77,7 +77,7 @@ root_stands m prefix within =
     (ap (keys_under (goes_on_with q) []) same ∙ keys_of_walk m prefix within)
     (ap (nodes_under (is_near q) []) same)
     (record {
-      sound = (record { is_hash = ap (λ (us : List Suffix). H (spelling (node_of_all us))) (sym same); stored = refl; near = refl }, tt);
+      sound = (record { is_hash = ap (λ (us : List Suffix). H (spelling (node_of_all us))) (sym same); stored = refl; near = refl; some = inl refl }, tt);
       keys = append-nil keys;
       nodes = append-nil nodes;
     })

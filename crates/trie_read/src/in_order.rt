@@ -1,5 +1,5 @@
 ghost use Rattle.std.specs.Prelude.{◌≡◌, ◌+◌, ◌≤◌, ◌++◌, [], None, map, reverse, IfOk, OnErr, vec_len, vec_capacity};
-ghost use Rattle.trie_read.specs.inner.Parts.{OfKey, in_order, part_of_next, parts_of};
+ghost use Rattle.trie_read.specs.inner.Parts.{OfKey, in_order, next_piece, as_pieces};
 
 use crate::parts::{Part, Stored};
 use sdb_base::{Bytes, Items, Keys, OutOfMemory};
@@ -28,7 +28,7 @@ fn go_on_in(
     mut parts: Vec<Part>,
 ) -> Result<Option<Stored>, OutOfMemory>
     ensures parts { IfOk result (λ next. in_order found.new.items next later.new.items
-        ≡ map OfKey found.old.items ++ (parts_of parts.items ++ parts_of (reverse later.old.items))) }
+        ≡ map OfKey found.old.items ++ (as_pieces parts.items ++ as_pieces (reverse later.old.items))) }
     ensures last { IfOk result (λ next. next ≡ None → later.new.items ≡ []) }
     ensures found { OnErr result (found.new.items ≡ found.old.items) }
     ensures later { OnErr result (later.new.items ≡ later.old.items) }
@@ -51,7 +51,7 @@ pub(crate) fn go_on(
     parts: Vec<Part>,
 ) -> Result<Option<Stored>, OutOfMemory>
     ensures parts { IfOk result (λ next. in_order found.new next later.new
-        ≡ map OfKey found.old ++ (parts_of parts.items ++ parts_of (reverse later.old))) }
+        ≡ map OfKey found.old ++ (as_pieces parts.items ++ as_pieces (reverse later.old))) }
     ensures last { IfOk result (λ next. next ≡ None → later.new ≡ []) }
     ensures found { OnErr result (found.new ≡ found.old) }
     ensures later { OnErr result (later.new ≡ later.old) }

@@ -2,7 +2,7 @@ ghost use Rattle.std.specs.Prelude.{◌≡◌, ◌++◌, ◌∷◌, [], length, 
 ghost use Rattle.trie_codec.specs.NodeParts.{child_bytes, node_of_ref};
 ghost use Rattle.trie_codec.specs.Slices.{bytes_in};
 ghost use Rattle.trie_read.specs.inner.Descent.{IsSized};
-ghost use Rattle.trie_read.specs.inner.Parts.{OfNode, key_of_nibbles, child_parts, goes_of, keeps_of, own_parts, parts_in, parts_of};
+ghost use Rattle.trie_read.specs.inner.Parts.{OfNode, key_of_nibbles, child_parts, sought_paths, sought_keys, own_parts, parts_in, as_pieces};
 
 use crate::descent::{MOST_LEVELS, hash_of};
 use sdb_base::{Bytes, NodeHash, OutOfMemory};
@@ -32,24 +32,28 @@ pub(crate) enum Part {
 pub(crate) enum Sought<'a> {
     /// Those that begin with these.
     Beginning(&'a [u8]),
+    /// Those above these.
+    Above(&'a [u8]),
 }
 
 impl Sought<'_> {
     // Whether a key is sought.
     fn keeps(self, key: &[u8]) -> bool
-        ensures { result ≡ keeps_of self.entry key.now }
+        ensures { result ≡ sought_keys self.entry key.now }
     {
         match self {
             Sought::Beginning(prefix) => key.starts_with(prefix),
+            Sought::Above(nibbles) => nibbles.cmp(key).is_lt(),
         }
     }
 
     // Whether a key below a path can be sought.
     fn goes_into(self, path: &[u8]) -> bool
-        ensures { result ≡ goes_of self.entry path.now }
+        ensures { result ≡ sought_paths self.entry path.now }
     {
         match self {
             Sought::Beginning(prefix) => prefix.starts_with(path) || path.starts_with(prefix),
+            Sought::Above(nibbles) => nibbles.starts_with(path) || nibbles.cmp(path).is_lt(),
         }
     }
 }
@@ -93,7 +97,7 @@ fn put_own(
     value: Option<&[u8]>,
     out: &mut Vec<Part>,
 ) -> Result<(), OutOfMemory>
-    ensures { OnOk result (parts_of out.new.items ≡ parts_of out.old.items ++ own_parts (keeps_of sought.entry) key.now (bytes_in value.entry)) }
+    ensures { OnOk result (as_pieces out.new.items ≡ as_pieces out.old.items ++ own_parts (sought_keys sought.entry) key.now (bytes_in value.entry)) }
 {
     if value.is_some() && sought.keeps(key) {
         out.push(Part::Key(key_of(alloc, key)?))?;
@@ -111,8 +115,8 @@ fn put_parts(
     node: &NodeRef,
     out: &mut Vec<Part>,
 ) -> Result<(), OutOfMemory>
-    ensures { OnOk result (parts_of out.new.items
-        ≡ parts_of out.old.items ++ parts_in (keeps_of sought.entry) (goes_of sought.entry) levels (node_of_ref node.now) path.now) }
+    ensures { OnOk result (as_pieces out.new.items
+        ≡ as_pieces out.old.items ++ parts_in (sought_keys sought.entry) (sought_paths sought.entry) levels (node_of_ref node.now) path.now) }
 {
     if levels == 0 {
         return Ok(());
@@ -138,8 +142,8 @@ fn put_child(
     out: &mut Vec<Part>,
 ) -> Result<(), OutOfMemory>
     requires { IsSized child }
-    ensures { OnOk result (parts_of out.new.items ≡ parts_of out.old.items
-        ++ child_parts (goes_of sought.entry) (parts_in (keeps_of sought.entry) (goes_of sought.entry) levels) (end.now ++ nibble ∷ []) (child_bytes child.entry)) }
+    ensures { OnOk result (as_pieces out.new.items ≡ as_pieces out.old.items
+        ++ child_parts (sought_paths sought.entry) (parts_in (sought_keys sought.entry) (sought_paths sought.entry) levels) (end.now ++ nibble ∷ []) (child_bytes child.entry)) }
 {
     if let ChildRef::None = child {
         return Ok(());
@@ -169,8 +173,8 @@ pub(crate) fn parts_at(
     path: &[u8],
     node: &NodeRef,
 ) -> Result<Vec<Part>, OutOfMemory>
-    ensures { IfOk result (λ parts. parts_of parts.items
-        ≡ parts_in (keeps_of sought.entry) (goes_of sought.entry) 33 (node_of_ref node.now) path.now) }
+    ensures { IfOk result (λ parts. as_pieces parts.items
+        ≡ parts_in (sought_keys sought.entry) (sought_paths sought.entry) 33 (node_of_ref node.now) path.now) }
 {
     let mut parts = Vec::new(alloc);
     put_parts(alloc, MOST_LEVELS, sought, path, node, &mut parts)?;

@@ -1,5 +1,7 @@
 -- What a node has, and the inline nodes in it, in the order of keys.
-use Rattle.std.specs.Prelude.{◌≡◌, ℕ, zero, suc, ◌+◌, ◌*◌, ◌%◌, ◌==◌, ◌&&◌, ◌||◌, nat_eq, true, Bool, List, [], ◌∷◌, ◌++◌, length, map, filter, reverse, slice_index_or, Option, Some, None, if◌then◌else◌, Result, Ok, Err}
+use Rattle.std.specs.Prelude.{◌≡◌, ◌⊎◌, ℕ, zero, suc, ◌+◌, ◌*◌, ◌%◌, ◌==◌, ◌&&◌, ◌||◌, nat_eq, true, Bool, List, [], ◌∷◌, ◌++◌, length, map, filter, reverse, slice_index_or, Option, Some, None, if◌then◌else◌, Result, Ok, Err}
+use Rattle.std.specs.Ordering.{is_lt, nat_cmp}
+use Rattle.std.specs.Cmp.Lexicographic.{slice_cmp}
 use Rattle.std.specs.List.{AllByRecursion, flat_map, starts_with}
 use Rattle.sdb_blake2.specs.Blake2b.{H}
 use Rattle.trie_model.specs.Node.{Node, spelling}
@@ -12,7 +14,7 @@ use Rattle.trie_read.specs.inner.Following.{head_at}
 use Rattle.trie_read.specs.declared.parts.Part.{Part}
 use Rattle.trie_read.specs.declared.parts.Part.TheVariants as part
 use Rattle.trie_read.specs.declared.parts.Sought.{Sought}
-use Rattle.trie_read.specs.declared.parts.Sought.TheVariants.{Beginning}
+use Rattle.trie_read.specs.declared.parts.Sought.TheVariants.{Above, Beginning}
 use Rattle.trie_read.specs.declared.parts.Stored.{Stored}
 
 -- a key, or a stored node by its hash and its path
@@ -20,17 +22,17 @@ pub data Piece : Type 0 where
   OfKey : List ℕ → Piece
   OfNode : List ℕ → List ℕ → Piece
 
-abbrev pub part_of : Part → Piece
-part_of (part.Key key) = OfKey key
-part_of (part.Node stored) = OfNode stored.hash.0 stored.path.items
+abbrev pub piece_of : Part → Piece
+piece_of (part.Key key) = OfKey key
+piece_of (part.Node stored) = OfNode stored.hash.0 stored.path.items
 
-abbrev pub parts_of : List Part → List Piece
-parts_of parts = map part_of parts
+abbrev pub as_pieces : List Part → List Piece
+as_pieces parts = map piece_of parts
 
 -- the stored node that comes next, if there is one
-abbrev pub part_of_next : Option Stored → List Piece
-part_of_next None = []
-part_of_next (Some stored) = OfNode stored.hash.0 stored.path.items ∷ []
+abbrev pub next_piece : Option Stored → List Piece
+next_piece None = []
+next_piece (Some stored) = OfNode stored.hash.0 stored.path.items ∷ []
 
 -- after how many nibbles it hangs
 abbrev pub depth_of : Option Stored → ℕ
@@ -39,7 +41,7 @@ depth_of (Some stored) = length stored.path.items
 
 -- the parts of keys that were found, of the stored node that comes next, and of what comes after it, the last first
 abbrev pub in_order : List (List ℕ) → Option Stored → List Part → List Piece
-in_order found next later = map OfKey found ++ (part_of_next next ++ parts_of (reverse later))
+in_order found next later = map OfKey found ++ (next_piece next ++ as_pieces (reverse later))
 
 -- the bytes of nibbles, two to a byte; a last one alone is left out
 abbrev pub key_of_nibbles : List ℕ → List ℕ
@@ -53,15 +55,24 @@ key_of_nibbles (n ∷ (k ∷ ns)) = (16 * (n % 16) + k % 16) ∷ key_of_nibbles 
 abbrev pub is_near : List ℕ → List ℕ → Bool
 is_near nibbles path = starts_with nat_eq nibbles path || starts_with nat_eq path nibbles
 
+-- whether nibbles are above others; whether a path leads to nibbles, or is above them
+abbrev pub is_above : List ℕ → List ℕ → Bool
+is_above nibbles key = is_lt (slice_cmp nat_cmp nibbles key)
+
+abbrev pub leads_above : List ℕ → List ℕ → Bool
+leads_above nibbles path = starts_with nat_eq nibbles path || is_above nibbles path
+
 abbrev pub goes_on_with : List ℕ → List ℕ → Bool
 goes_on_with nibbles key = starts_with nat_eq key nibbles
 
 -- whether a key of these nibbles is sought, and whether one below a path can be
-abbrev pub keeps_of : Sought → List ℕ → Bool
-keeps_of (Beginning prefix) key = goes_on_with prefix.now key
+abbrev pub sought_keys : Sought → List ℕ → Bool
+sought_keys (Beginning prefix) key = goes_on_with prefix.now key
+sought_keys (Above nibbles) key = is_above nibbles.now key
 
-abbrev pub goes_of : Sought → List ℕ → Bool
-goes_of (Beginning prefix) path = is_near prefix.now path
+abbrev pub sought_paths : Sought → List ℕ → Bool
+sought_paths (Beginning prefix) path = is_near prefix.now path
+sought_paths (Above nibbles) path = leads_above nibbles.now path
 
 -- ---- of one node
 
@@ -112,13 +123,14 @@ pub record IsStored (suffixes : List Suffix) (goes : List ℕ → Bool) (hash pa
   pub is_hash : hash ≡ H (spelling (node_at suffixes path))
   pub stored : is_stored (head_at suffixes path) ≡ true
   pub near : goes path ≡ true
+  pub some : (path ≡ []) ⊎ (below path suffixes ≡ [] → ⊥)
 
-abbrev pub IsPart : List Suffix → (List ℕ → Bool) → Piece → Type 0
-IsPart suffixes goes (OfKey key) = Unit {0}
-IsPart suffixes goes (OfNode hash path) = IsStored suffixes goes hash path
+abbrev pub IsPiece : List Suffix → (List ℕ → Bool) → Piece → Type 0
+IsPiece suffixes goes (OfKey key) = Unit {0}
+IsPiece suffixes goes (OfNode hash path) = IsStored suffixes goes hash path
 
 -- parts that stand for these keys and these nodes
 pub record StandFor (suffixes : List Suffix) (keeps goes : List ℕ → Bool) (parts : List Piece) (ks : List (List ℕ)) (ns : List PathNode) : Type 0 where
-  pub sound : AllByRecursion (IsPart suffixes goes) parts
+  pub sound : AllByRecursion (IsPiece suffixes goes) parts
   pub keys : flat_map (keys_for suffixes keeps) parts ≡ ks
   pub nodes : flat_map (nodes_for suffixes goes) parts ≡ ns
