@@ -53,18 +53,19 @@ made_again (b ∷ k) a =
 
 -- ---- keys with a prefix
 
-keys_in : (prefix : List ℕ) (es : List (List ℕ × List ℕ)) → AllByRecursion IsEntry es
-    → keys_under (goes_on_with (nibbles_of prefix)) [] (map in_nibbles es) ≡ filter (λ k. starts_with nat_eq k prefix) (map (λ (e : List ℕ × List ℕ). e.0) es)
-keys_in prefix [] a = refl
-keys_in prefix ((k, v) ∷ es) a =
-    let keeps : List ℕ → Bool = goes_on_with (nibbles_of prefix) in
-    let rest : List (List ℕ) = filter (λ l. starts_with nat_eq l prefix) (map (λ (e : List ℕ × List ℕ). e.0) es) in
+-- the keys that a test of their nibbles keeps are those that a test of their bytes does
+pub kept_keys : (keeps test : List ℕ → Bool) → ((k : List ℕ) → keeps (nibbles_of k) ≡ test k) → (es : List (List ℕ × List ℕ)) → AllByRecursion IsEntry es
+    → keys_under keeps [] (map in_nibbles es) ≡ filter test (map (λ (e : List ℕ × List ℕ). e.0) es)
+kept_keys keeps test alike [] a = refl
+kept_keys keeps test alike ((k, v) ∷ es) a =
+    let rest : List (List ℕ) = filter test (map (λ (e : List ℕ × List ℕ). e.0) es) in
     one_under keeps [] (nibbles_of k, v) (map in_nibbles es)
-    ∙ ap (if_kept keeps (nibbles_of k)) (keys_in prefix es a.1)
-    ∙ ap₂ (λ b (l : List ℕ). cond b (l ∷ rest) rest) (begins_alike prefix k) (made_again k (recursion_from_All (λ b. b < 256) k a.0.key))
+    ∙ ap (if_kept keeps (nibbles_of k)) (kept_keys keeps test alike es a.1)
+    ∙ ap₂ (λ b (l : List ℕ). cond b (l ∷ rest) rest) (alike k) (made_again k (recursion_from_All (λ b. b < 256) k a.0.key))
 
 pub keys_of_walk : (m : State) (prefix : List ℕ) → All IsEntry (entries m) → keys_under (goes_on_with (nibbles_of prefix)) [] (suffixes_of m) ≡ keys_with_prefix m prefix
-keys_of_walk m prefix within = keys_in prefix (entries m) (recursion_from_All IsEntry (entries m) within)
+keys_of_walk m prefix within =
+    kept_keys (goes_on_with (nibbles_of prefix)) (λ k. starts_with nat_eq k prefix) (begins_alike prefix) (entries m) (recursion_from_All IsEntry (entries m) within)
 
 -- ---- paths that part from a prefix
 

@@ -20,3 +20,6 @@ pub mod KeysInNibbles
 pub mod OneFed
 pub mod WalkStages
 pub mod AboveNibbles
+pub mod Led
+pub mod KeysAbove
+pub mod SearchStages

@@ -4,3 +4,4 @@ pub mod Depth
 pub mod inner
 pub mod Reads
 pub mod Walks
+pub mod Searches

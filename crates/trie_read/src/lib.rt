@@ -14,6 +14,7 @@ mod descent;
 mod fault;
 mod in_order;
 mod laws;
+mod next_job;
 mod parts;
 mod read_job;
 mod walk_job;
@@ -24,6 +25,7 @@ pub use laws::{
     children_are_the_nodes_below, nodes_are_named_from_above, nodes_hang_where_keys_part,
     nodes_rise_by_path, puts_and_drops_balance,
 };
+pub use next_job::NextJob;
 pub use read_job::ReadJob;
 pub use walk_job::WalkJob;
 

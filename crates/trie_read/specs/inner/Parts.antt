@@ -134,3 +134,42 @@ pub record StandFor (suffixes : List Suffix) (keeps goes : List ℕ → Bool) (p
   pub sound : AllByRecursion (IsPiece suffixes goes) parts
   pub keys : flat_map (keys_for suffixes keeps) parts ≡ ks
   pub nodes : flat_map (nodes_for suffixes goes) parts ≡ ns
+
+-- ---- for the least key above a key
+
+-- the next stored node, and what comes behind it
+abbrev pub behind_it : Option Part → List Piece
+behind_it None = []
+behind_it (Some p) = piece_of p ∷ []
+
+abbrev pub in_front : Option Stored → Option Part → List Piece
+in_front next nearest = next_piece next ++ behind_it nearest
+
+-- of parts in their order a first key, or a first node and what comes behind it; and the others
+abbrev pub front_of : List Piece → List Piece
+front_of [] = []
+front_of (OfKey key ∷ ps) = OfKey key ∷ []
+front_of (OfNode hash path ∷ []) = OfNode hash path ∷ []
+front_of (OfNode hash path ∷ (p ∷ ps)) = OfNode hash path ∷ (p ∷ [])
+
+abbrev pub rest_of : List Piece → List Piece
+rest_of [] = []
+rest_of (OfKey key ∷ ps) = ps
+rest_of (OfNode hash path ∷ []) = []
+rest_of (OfNode hash path ∷ (p ∷ ps)) = ps
+
+-- where no node comes next there is a key or nothing
+abbrev pub IsSettled : Option Stored → Option Part → Type 0
+IsSettled (Some stored) nearest = Unit {0}
+IsSettled None None = Unit {0}
+IsSettled None (Some (part.Key key)) = Unit {0}
+IsSettled None (Some (part.Node stored)) = ⊥
+
+-- a node that hangs above the nibbles, and not on their way; of all parts but the first the nodes do
+abbrev pub HangsAbove : List ℕ → Piece → Type 0
+HangsAbove nibbles (OfKey key) = Unit {0}
+HangsAbove nibbles (OfNode hash path) = is_above nibbles path ≡ true
+
+abbrev pub IsLed : List ℕ → List Piece → Type 0
+IsLed nibbles [] = Unit {0}
+IsLed nibbles (p ∷ ps) = AllByRecursion (HangsAbove nibbles) ps
