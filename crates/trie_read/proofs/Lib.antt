@@ -23,3 +23,4 @@ pub mod AboveNibbles
 pub mod Led
 pub mod KeysAbove
 pub mod SearchStages
+pub mod Seeking

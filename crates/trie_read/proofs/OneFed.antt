@@ -27,11 +27,11 @@ use Rattle.trie_read.proofs.PartsOfNodes.{IsClosed, unfolded}
 use Rattle.trie_read.proofs.Sound.{node_sound, sound_below}
 use Rattle.trie_read.proofs.Standing.{gone_first, stand_as, stand_joined}
 
-all_split : {X : Type 0} (P : X → Type 0) (xs ys : List X) → AllByRecursion P (xs ++ ys) → AllByRecursion P xs × AllByRecursion P ys
+pub all_split : {X : Type 0} (P : X → Type 0) (xs ys : List X) → AllByRecursion P (xs ++ ys) → AllByRecursion P xs × AllByRecursion P ys
 all_split P [] ys a = (tt, a)
 all_split P (x ∷ xs) ys a = let rest : AllByRecursion P xs × AllByRecursion P ys = all_split P xs ys a.1 in ((a.0, rest.0), rest.1)
 
-head_alike : (a b : PathNode) (xs ys : List PathNode) → a ∷ xs ≡ b ∷ ys → a ≡ b
+pub head_alike : (a b : PathNode) (xs ys : List PathNode) → a ∷ xs ≡ b ∷ ys → a ≡ b
 head_alike a b xs ys e = cc
 
 -- the node at a path comes first of those over it

@@ -32,6 +32,8 @@ pub use walk_job::WalkJob;
 #[cfg(test)]
 mod example_nodes;
 #[cfg(test)]
+mod next_tests;
+#[cfg(test)]
 mod tests;
 #[cfg(test)]
 mod walk_tests;

@@ -91,7 +91,8 @@ impl NextJob {
         let NextJob { nearest, .. } = self;
         match nearest {
             Some(Part::Key(key)) => Some(key),
-            _ => None,
+            Some(Part::Node(_)) => None,
+            None => None,
         }
     }
 }
