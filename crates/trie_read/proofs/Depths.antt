@@ -3,10 +3,9 @@ use Rattle.std.proofs.Common.{◌≡◌, ℕ, zero, suc, ◌≤◌, List, [], �
 use Rattle.std.specs.List.{flat_map}
 use Rattle.trie_model.specs.Node.{spelling}
 use Rattle.trie_model.specs.Nodes.{PathNode, if_any, nodes_over}
-use Rattle.trie_model.specs.Trie.{Suffix, below, common_prefix, every_nibble, levels_of, node_of_all, node_over}
+use Rattle.trie_model.specs.Trie.{Suffix, below, every_nibble, levels_of, node_over}
 use Rattle.trie_root.proofs.Levels.{levels_above_none, same_node}
 use Rattle.trie_root.proofs.ReadOff.{flat_map_alike}
-use Rattle.trie_read.specs.Paths.{node_at}
 use Rattle.trie_read.specs.inner.Following.{head_at}
 use Rattle.trie_read.proofs.Hanging.{Above, fits_below}
 

@@ -1,5 +1,5 @@
 -- A state's keys above a key: the first of them, and the nibbles of those under a path.
-use Rattle.std.proofs.Common.{◌≡◌, ◌⊎◌, ℕ, ◌<◌, Bool, true, false, cond, List, [], ◌∷◌, ◌++◌, map, Option, Some, None, T, refl, ap, subst, sym, ◌∙◌, inl, inr}
+use Rattle.std.proofs.Common.{◌≡◌, ℕ, ◌<◌, Bool, true, false, cond, List, [], ◌∷◌, ◌++◌, map, Option, Some, None, T, refl, ap, subst, sym, ◌∙◌, inl, inr}
 use Rattle.std.specs.Prelude.{All, filter, find, is_some}
 use Rattle.std.specs.List.{AllByRecursion, cons_option}
 use Rattle.std.specs.Option.{option_map}
@@ -20,7 +20,7 @@ use Rattle.trie_read.specs.inner.Parts.{is_above, key_of_nibbles, keys_under}
 use Rattle.trie_read.proofs.AboveNibbles.{above_further, nibbles_above}
 use Rattle.trie_read.proofs.Among.{Among, among_kept}
 use Rattle.trie_read.proofs.KeysInNibbles.{kept_keys, made_again}
-use Rattle.trie_read.proofs.Standing.{if_kept, one_under}
+use Rattle.trie_read.proofs.Standing.{one_under}
 use Rattle.trie_read.proofs.Ways.{put_back}
 
 pub keys_of_search : (m : State) (key : List ℕ) → All IsEntry (entries m) → keys_under (is_above (nibbles_of key)) [] (suffixes_of m) ≡ keys_above m key

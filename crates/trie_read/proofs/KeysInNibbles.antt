@@ -1,5 +1,5 @@
 -- Keys by their nibbles: what they begin with, and how they are made again.
-use Rattle.std.proofs.Common.{◌≡◌, ◌⊎◌, ℕ, ◌+◌, ◌*◌, ◌/◌, ◌%◌, ◌<◌, Bool, true, false, eqb, cond, List, [], ◌∷◌, ◌++◌, map, Option, Some, None, refl, ap, ap₂, subst, sym, ◌∙◌, inl, inr, arith, eq-eqb}
+use Rattle.std.proofs.Common.{◌≡◌, ℕ, ◌+◌, ◌*◌, ◌/◌, ◌%◌, ◌<◌, Bool, true, false, eqb, cond, List, [], ◌∷◌, ◌++◌, map, refl, ap, ap₂, sym, ◌∙◌, inl, inr, arith, eq-eqb}
 use Rattle.std.specs.Prelude.{◌||◌, All, filter, is_some, nat_eq}
 use Rattle.std.specs.List.{AllByRecursion, starts_with}
 use Rattle.std.specs.FinMap.{entries}
@@ -8,7 +8,7 @@ use Rattle.std.proofs.lemmas.List.Elements.{recursion_from_All}
 use Rattle.sdb_base.specs.Nibbles.{nibbles_of}
 use Rattle.trie_model.specs.Fetches.{keys_with_prefix}
 use Rattle.trie_model.specs.State.{State}
-use Rattle.trie_model.specs.Trie.{Suffix, after_prefix, suffixes_of}
+use Rattle.trie_model.specs.Trie.{after_prefix, suffixes_of}
 use Rattle.trie_root.specs.Suffixes.{IsEntry}
 use Rattle.trie_root.proofs.ReadOffStates.{in_nibbles}
 use Rattle.trie_root.proofs.Rows.{unlike}

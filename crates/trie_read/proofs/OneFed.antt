@@ -1,25 +1,17 @@
 -- What parts stand for when the stored node that comes next is fed.
-use Rattle.std.proofs.Common.{◌≡◌, ℕ, zero, suc, ◌≤◌, Bool, List, [], ◌∷◌, ◌++◌, map, reverse, Option, Some, None, refl, ap, ap₂, subst, sym, ◌∙◌, arith}
-use Rattle.std.specs.Prelude.{All, Ok}
+use Rattle.std.proofs.Common.{◌≡◌, ℕ, zero, suc, ◌≤◌, Bool, List, [], ◌∷◌, ◌++◌, map, refl, ap, sym, ◌∙◌, arith}
+use Rattle.std.specs.Prelude.{Ok}
 use Rattle.std.specs.List.{AllByRecursion, flat_map}
-use Rattle.std.specs.FinMap.{entries}
-use Rattle.std.proofs.lemmas.List.{append-nil}
 use Rattle.std.proofs.lemmas.List.Concat.{flat_map-append}
-use Rattle.sdb_blake2.specs.Blake2b.{H}
-use Rattle.trie_model.specs.Node.{IsNode, Node, spelling}
+use Rattle.trie_model.specs.Node.{IsNode, Node}
 use Rattle.trie_model.specs.Nodes.{PathNode, nodes_over}
-use Rattle.trie_model.specs.State.{State}
-use Rattle.trie_model.specs.Trie.{Suffix, below, levels_of, suffixes_of}
+use Rattle.trie_model.specs.Trie.{Suffix, below, levels_of}
 use Rattle.trie_codec.specs.Reading.{node_of_bytes}
 use Rattle.trie_codec.proofs.Spellings.{whole_read}
-use Rattle.trie_root.specs.Suffixes.{IsEntry}
 use Rattle.trie_root.proofs.Levels.{levels_above_none}
 use Rattle.trie_read.specs.Paths.{node_at}
 use Rattle.trie_read.specs.inner.Following.{Sound, head_at}
-use Rattle.trie_read.specs.inner.Parts.{IsPiece, IsStored, OfKey, OfNode, Piece, StandFor, gone_into, in_order, keys_for, keys_under, nodes_for, nodes_under, next_piece, parts_in, as_pieces}
-use Rattle.trie_read.specs.declared.parts.Part.{Part}
-use Rattle.trie_read.specs.declared.parts.Stored.{Stored}
-use Rattle.trie_read.proofs.Binding.{sound_state}
+use Rattle.trie_read.specs.inner.Parts.{IsPiece, IsStored, OfKey, OfNode, Piece, StandFor, gone_into, keys_for, keys_under, nodes_for, nodes_under, parts_in}
 use Rattle.trie_read.proofs.Depths.{first_over}
 use Rattle.trie_read.proofs.Followed.{tail_alike}
 use Rattle.trie_read.proofs.NextStage.{one_of}

@@ -1,31 +1,29 @@
 -- What a node has stands for the keys and the nodes under its path.
-use Rattle.std.proofs.Common.{◌≡◌, ℕ, zero, suc, ◌+◌, ◌<◌, ◌≤◌, Bool, true, false, eqb, ltb, cond, List, [], ◌∷◌, ◌++◌, length, get_or, Option, Some, None, refl, ap, subst, sym, ◌∙◌, inl, inr, arith, append_assoc, eq-eqb}
+use Rattle.std.proofs.Common.{◌≡◌, ℕ, zero, suc, ◌<◌, ◌≤◌, Bool, true, false, eqb, ltb, cond, List, [], ◌∷◌, ◌++◌, length, get_or, Option, Some, None, refl, ap, subst, sym, ◌∙◌, inl, inr, arith, append_assoc, eq-eqb}
 use Rattle.std.specs.Prelude.{Ok, filter}
-use Rattle.std.specs.List.{AllByRecursion, flat_map}
+use Rattle.std.specs.List.{flat_map}
 use Rattle.std.proofs.lemmas.Bool.{cases_lt}
 use Rattle.std.proofs.lemmas.List.{append-nil}
 use Rattle.sdb_blake2.specs.Blake2b.{H}
 use Rattle.trie_model.specs.Node.{IsNode, IsNodeWithin, Node, merkle_value, spelling}
-use Rattle.trie_model.specs.Nodes.{PathNode, if_any, is_stored, nodes_over}
-use Rattle.trie_model.specs.Trie.{Suffix, below, child_value, common_prefix, every_nibble, levels_of, node_of_all, own_value, value_here, with_prefix}
+use Rattle.trie_model.specs.Nodes.{PathNode, if_any, nodes_over}
+use Rattle.trie_model.specs.Trie.{Suffix, below, child_value, common_prefix, every_nibble, levels_of, node_of_all, own_value, value_here}
 use Rattle.trie_codec.specs.Reading.{node_of_bytes}
-use Rattle.trie_codec.specs.declared.fault.CodecFault.{CodecFault}
 use Rattle.trie_codec.proofs.Spellings.{whole_read}
 use Rattle.trie_root.proofs.Levels.{levels_above_none}
 use Rattle.trie_root.proofs.Prefixes.{begins_itself, below-append}
-use Rattle.trie_root.proofs.ReadOff.{flat_map_alike, with_prefix-below}
+use Rattle.trie_root.proofs.ReadOff.{with_prefix-below}
 use Rattle.trie_root.proofs.ReadOffNibbles.{from, going_on, parts_in_order}
 use Rattle.trie_root.proofs.Rows.{unlike}
 use Rattle.trie_read.specs.Paths.{child_path, node_at}
 use Rattle.trie_read.specs.inner.Following.{Sound, head_at}
-use Rattle.trie_read.specs.inner.Parts.{IsPiece, OfKey, OfNode, Piece, StandFor, child_parts, gone_into, inline_parts, key_of_nibbles, keys_under, own_parts, parts_in, parts_there}
+use Rattle.trie_read.specs.inner.Parts.{OfKey, OfNode, Piece, StandFor, child_parts, gone_into, inline_parts, key_of_nibbles, keys_under, own_parts, parts_in, parts_there}
 use Rattle.trie_read.proofs.Binding.{from_path, none_or_some}
 use Rattle.trie_read.proofs.Children.{child_of, partial_of, value_of}
 use Rattle.trie_read.proofs.Depths.{first_over, same_nodes}
 use Rattle.trie_read.proofs.Followed.{child_within, no_levels, not_kept, short_child, tail_alike}
 use Rattle.trie_read.proofs.Hanging.{Above, fits_below}
 use Rattle.trie_read.proofs.PartSteps.{parts_step}
-use Rattle.trie_read.proofs.Rising.{StartsWith}
 use Rattle.trie_read.proofs.Sound.{length-hash, nibbles_in, node_sound, sound_below}
 use Rattle.trie_read.proofs.Standing.{flat_through, gone_joined, if_kept, none_gone, none_under, one_under, stand_as, stand_flat, stand_joined, stand_none, under_further, under_joined}
 use Rattle.trie_read.proofs.Stored.{is_kept}

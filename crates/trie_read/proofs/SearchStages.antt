@@ -1,16 +1,13 @@
 -- From one node that a search waits for to the next.
-use Rattle.std.proofs.Common.{◌≡◌, ◌⊎◌, ℕ, ◌≤◌, Bool, true, false, cond, eqb, List, [], ◌∷◌, ◌++◌, map, reverse, Option, Some, None, refl, ap, ap₂, subst, sym, ◌∙◌, inl, inr, append_assoc}
-use Rattle.std.specs.Prelude.{◌||◌, All, Ok, filter, is_some, nat_eq}
+use Rattle.std.proofs.Common.{◌≡◌, ℕ, Bool, true, false, cond, eqb, List, [], ◌∷◌, ◌++◌, Option, Some, None, refl, ap, ap₂, subst, sym, ◌∙◌, inl, inr}
+use Rattle.std.specs.Prelude.{◌||◌, All, filter, is_some, nat_eq}
 use Rattle.std.specs.List.{AllByRecursion, flat_map, starts_with}
-use Rattle.std.specs.Option.{option_map}
 use Rattle.std.specs.FinMap.{entries}
 use Rattle.std.proofs.lemmas.Bool.Decides.{eqb_tells}
 use Rattle.std.proofs.lemmas.List.{append-nil}
-use Rattle.std.proofs.lemmas.List.Concat.{flat_map-append}
 use Rattle.std.proofs.lemmas.List.Elements.{filter-append, recursion_from_All}
 use Rattle.sdb_base.specs.Nibbles.{nibbles_of}
 use Rattle.trie_model.specs.Fetches.{keys_of_state, next_key, on_the_way, on_the_way_if}
-use Rattle.trie_model.specs.Node.{Node}
 use Rattle.trie_model.specs.Nodes.{PathNode, is_stored, nodes_over}
 use Rattle.trie_model.specs.State.{State}
 use Rattle.trie_model.specs.Trie.{Suffix, after_prefix, below, levels_of, suffixes_of}
@@ -19,9 +16,8 @@ use Rattle.trie_read.specs.Searches.{is_for_next, keys_above}
 use Rattle.trie_read.specs.inner.Following.{head_at}
 use Rattle.trie_read.specs.inner.Parts.{HangsAbove, IsLed, IsPiece, IsStored, OfKey, OfNode, Piece, StandFor, front_of, gone_into, is_above, keys_for, keys_under, leads_above, nodes_for, rest_of}
 use Rattle.trie_read.proofs.AboveNibbles.{above_closed, above_further, above_off, nibbles_above}
-use Rattle.trie_read.proofs.Among.{Among, among_either, among_kept, among_left, among_right}
-use Rattle.trie_read.proofs.Binding.{from_path}
-use Rattle.trie_read.proofs.KeysAbove.{among_under, head_of, next_is_first, once, some_under, under_begins}
+use Rattle.trie_read.proofs.Among.{Among, among_kept, among_left, among_right}
+use Rattle.trie_read.proofs.KeysAbove.{among_under, head_of, next_is_first, some_under, under_begins}
 use Rattle.trie_read.proofs.Rising.{StartsWith, all_kept, all_weaker, rises_over}
 use Rattle.trie_read.proofs.Ways.{follows, put_back}
 

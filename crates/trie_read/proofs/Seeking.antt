@@ -1,5 +1,5 @@
 -- What a search keeps, when the node that it waits for is fed.
-use Rattle.std.proofs.Common.{◌≡◌, ℕ, ◌≤◌, Bool, true, false, cond, List, [], ◌∷◌, ◌++◌, map, Option, Some, None, refl, ap, ap₂, subst, sym, ◌∙◌, inl, arith, append_assoc}
+use Rattle.std.proofs.Common.{◌≡◌, ℕ, Bool, true, false, cond, List, [], ◌∷◌, ◌++◌, Option, Some, None, refl, ap, ap₂, subst, sym, ◌∙◌, inl, append_assoc}
 use Rattle.std.specs.Prelude.{All, Ok, filter}
 use Rattle.std.specs.List.{AllByRecursion, flat_map}
 use Rattle.std.specs.Option.{option_map}
@@ -10,9 +10,9 @@ use Rattle.sdb_base.specs.Nibbles.{nibbles_of}
 use Rattle.sdb_blake2.specs.Blake2b.{H}
 use Rattle.trie_model.specs.Fetches.{next_fetches, next_key}
 use Rattle.trie_model.specs.Node.{Node, spelling}
-use Rattle.trie_model.specs.Nodes.{PathNode, is_stored, nodes_over, stored_nodes}
+use Rattle.trie_model.specs.Nodes.{PathNode, stored_nodes}
 use Rattle.trie_model.specs.State.{State}
-use Rattle.trie_model.specs.Trie.{Suffix, below, levels_of, node_of_all, root_node, suffixes_of, trie_root}
+use Rattle.trie_model.specs.Trie.{Suffix, below, node_of_all, root_node, suffixes_of, trie_root}
 use Rattle.trie_codec.specs.Reading.{node_of_bytes}
 use Rattle.trie_root.specs.Suffixes.{IsEntry}
 use Rattle.trie_read.specs.Searches.{IsSearchStage, IsSeeking, is_for_next, keys_above}
@@ -30,7 +30,6 @@ use Rattle.trie_read.proofs.KeysAbove.{head_of, keys_of_search, next_is_first, o
 use Rattle.trie_read.proofs.Led.{led_joined, parts_led}
 use Rattle.trie_read.proofs.OneFed.{Ahead, ahead, all_split, head_alike, one_fed}
 use Rattle.trie_read.proofs.SearchStages.{far_fails, first_passes, front_and_rest, none_passes, nothing_let_go}
-use Rattle.trie_read.proofs.Standing.{stand_as}
 
 -- what is kept of a search, apart from a job
 pub record Seeks (m : State) (key : List ℕ) (kept others : List Piece) (ns todo : List PathNode) : Type 0 where

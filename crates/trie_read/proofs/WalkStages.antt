@@ -1,22 +1,19 @@
 -- From one node that a walk waits for to the next.
-use Rattle.std.proofs.Common.{◌≡◌, ℕ, Bool, true, List, [], ◌∷◌, ◌++◌, map, reverse, Option, Some, None, refl, ap, ap₂, subst, sym, ◌∙◌, inl}
+use Rattle.std.proofs.Common.{◌≡◌, ℕ, Bool, List, [], ◌∷◌, map, reverse, Option, Some, None, refl, ap, ap₂, subst, sym, ◌∙◌, inl}
 use Rattle.std.specs.Prelude.{All}
 use Rattle.std.specs.List.{flat_map}
 use Rattle.std.specs.Option.{option_map}
 use Rattle.std.specs.FinMap.{entries}
 use Rattle.std.proofs.lemmas.List.{append-nil}
-use Rattle.std.proofs.lemmas.List.Concat.{flat_map-append}
 use Rattle.sdb_base.specs.Nibbles.{nibbles_of}
-use Rattle.sdb_base.specs.declared.node.NodeHash.{NodeHash}
 use Rattle.sdb_blake2.specs.Blake2b.{H}
 use Rattle.trie_model.specs.Fetches.{keys_with_prefix, walk_fetches}
 use Rattle.trie_model.specs.Node.{spelling}
-use Rattle.trie_model.specs.Nodes.{PathNode, nodes_over}
+use Rattle.trie_model.specs.Nodes.{PathNode}
 use Rattle.trie_model.specs.State.{State}
-use Rattle.trie_model.specs.Trie.{Suffix, below, levels_of, node_of_all, root_node, suffixes_of, trie_root}
+use Rattle.trie_model.specs.Trie.{Suffix, below, node_of_all, root_node, suffixes_of, trie_root}
 use Rattle.trie_root.specs.Suffixes.{IsEntry}
-use Rattle.trie_read.specs.inner.Following.{head_at}
-use Rattle.trie_read.specs.inner.Parts.{OfKey, OfNode, Piece, StandFor, goes_on_with, gone_into, in_order, is_near, keys_for, keys_under, nodes_for, nodes_under, next_piece, as_pieces}
+use Rattle.trie_read.specs.inner.Parts.{OfKey, OfNode, Piece, StandFor, goes_on_with, in_order, is_near, keys_for, keys_under, nodes_for, nodes_under, as_pieces}
 use Rattle.trie_read.specs.Walks.{IsWalkStage, IsWalking}
 use Rattle.trie_read.specs.declared.parts.Part.{Part}
 use Rattle.trie_read.specs.declared.parts.Stored.{Stored}

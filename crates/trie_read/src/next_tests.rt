@@ -20,12 +20,20 @@ const SEARCHES: [(&[&[u8]], &[u8], Option<&[u8]>); 23] = [
     (&[MIXED, HASHED], b"\xab", None),
     (&[ROOT, AT_1], b"", Some(b"\x10")),
     (&[ROOT, AT_1, AT_100, AT_1000], b"\x10", Some(b"\x10\x00")),
-    (&[ROOT, AT_1, AT_100, AT_1000], b"\x10\x00", Some(b"\x10\x01")),
+    (
+        &[ROOT, AT_1, AT_100, AT_1000],
+        b"\x10\x00",
+        Some(b"\x10\x01"),
+    ),
     (&[ROOT, AT_1, AT_100], b"\x10\x01", Some(b"\x10\x20")),
     (&[ROOT, AT_1, AT_2], b"\x10\x20", Some(b"\x20")),
     (&[ROOT, AT_1, AT_2], b"\x15", Some(b"\x20")),
     (&[ROOT, AT_2, AT_203], b"\x20", Some(b"\x20\x30")),
-    (&[ROOT, AT_2, AT_203, AT_2031, AT_A], b"\x20\x31", Some(b"\xa0")),
+    (
+        &[ROOT, AT_2, AT_203, AT_2031, AT_A],
+        b"\x20\x31",
+        Some(b"\xa0"),
+    ),
     (&[ROOT, AT_2, AT_203, AT_A], b"\x20\x32", Some(b"\xa0")),
     (&[ROOT, AT_A, AT_AA], b"\xa0", Some(b"\xaa\xbb")),
     (&[ROOT, AT_A, AT_AA], b"\xaa\xbb", Some(b"\xaa\xbc")),
@@ -52,20 +60,30 @@ fn fed(mut job: NextJob, node: &[u8]) -> Result<NextJob, Fail> {
     }
 }
 
+// The answer of a job that is fed with just these nodes.
+fn found(alloc: Global, nodes: &[&[u8]], key: &[u8]) -> Result<Option<Bytes>, Fail> {
+    let [root, ..] = nodes else {
+        return Err(Fail::new("no root"));
+    };
+    let mut job = job(alloc, root, key)?;
+    for node in nodes {
+        job = fed(job, node)?;
+    }
+    match job.want() {
+        Some(_) => Err(Fail::new("one more node is wanted")),
+        None => Ok(job.answer()),
+    }
+}
+
+fn is(answer: &Option<Bytes>, want: Option<&[u8]>) -> bool {
+    answer.as_ref().map(|key| key.as_slice()) == want
+}
+
 #[test]
 fn searches(rt: HostRuntime) -> Result<(), Fail> {
     let alloc = rt.alloc();
     for (nodes, key, want) in SEARCHES {
-        let [root, ..] = nodes else {
-            return Err(Fail::new("no root"));
-        };
-        let mut job = job(alloc, root, key)?;
-        for node in nodes {
-            job = fed(job, node)?;
-        }
-        assert!(rt; job.want().is_none());
-        let answer = job.answer();
-        assert!(rt; answer.as_ref().map(|key| key.as_slice()) == want);
+        assert!(rt; is(&found(alloc, nodes, key)?, want));
     }
     Ok(())
 }

@@ -1,4 +1,4 @@
-use Rattle.std.proofs.Common.{vec_len, List, [], ◌∷◌, ◌++◌, ap, sym, ◌∙◌}
+use Rattle.std.proofs.Common.{vec_len, [], ◌∷◌, ◌++◌, ap, sym, ◌∙◌}
 use Rattle.trie_read.specs.declared.parts.Part.{Part}
 use Rattle.trie_read.proofs.Turned.{emptied, first_key, first_two}
 use Rattle.trie_read.proofs.next_job.first_of.Goals as goal

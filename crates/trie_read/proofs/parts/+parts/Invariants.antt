@@ -1,9 +1,9 @@
-use Rattle.std.proofs.Common.{◌≡◌, ◌+◌, ◌*◌, ◌-◌, List, [], ◌∷◌, ◌++◌, ℕ, None}
+use Rattle.std.proofs.Common.{◌≡◌, ◌+◌, ◌*◌, ◌-◌, [], ◌∷◌, ◌++◌, None}
 use Rattle.std.specs.List.{flat_map}
 use Rattle.std.specs.Prelude.{slice_index_or}
 use Rattle.trie_codec.specs.NodeParts.{node_of_ref}
 use Rattle.trie_root.proofs.ReadOffNibbles.{from}
-use Rattle.trie_read.specs.inner.Parts.{Piece, child_parts, sought_paths, sought_keys, parts_in, as_pieces}
+use Rattle.trie_read.specs.inner.Parts.{child_parts, sought_paths, sought_keys, parts_in, as_pieces}
 use Rattle.trie_read.proofs.parts.+parts.Given as goal
 
 abbrev pub decreases-put_parts : goal.decreases-put_parts

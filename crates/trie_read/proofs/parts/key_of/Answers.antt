@@ -1,4 +1,4 @@
-use Rattle.std.proofs.Common.{◌≡◌, ℕ, ◌+◌, ◌*◌, ◌/◌, ◌%◌, List, [], ◌∷◌, ◌++◌, get_or, drop, ap, sym, ◌∙◌, arith, append_assoc}
+use Rattle.std.proofs.Common.{ℕ, ◌+◌, ◌*◌, ◌%◌, List, [], ◌∷◌, ◌++◌, get_or, drop, ap, sym, ◌∙◌, arith, append_assoc}
 use Rattle.trie_read.specs.inner.Parts.{key_of_nibbles}
 use Rattle.trie_read.proofs.PartSteps.{one_pair, pairs_end}
 use Rattle.trie_read.proofs.parts.key_of.Goals as goal

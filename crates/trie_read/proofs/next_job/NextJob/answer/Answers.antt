@@ -1,4 +1,4 @@
-use Rattle.std.proofs.Common.{◌≡◌, ◌∙◌, Option, Some, ap, sym}
+use Rattle.std.proofs.Common.{◌∙◌, Some, ap, sym}
 use Rattle.trie_read.specs.declared.parts.Part.{Part}
 use Rattle.trie_read.proofs.Seeking.{all_searched, key_behind}
 use Rattle.trie_read.proofs.next_job.NextJob.answer.Goals as goal

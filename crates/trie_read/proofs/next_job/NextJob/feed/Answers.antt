@@ -1,4 +1,4 @@
-use Rattle.std.proofs.Common.{◌≡◌, ℕ, List, ◌∷◌, ◌++◌, Option, Some, ap, ap₂, subst, sym, ◌∙◌}
+use Rattle.std.proofs.Common.{◌≡◌, ℕ, List, ◌∷◌, ◌++◌, Option, ap, ap₂, sym, ◌∙◌}
 use Rattle.sdb_base.specs.Nibbles.{nibbles_of}
 use Rattle.trie_codec.specs.NodeParts.{node_of_ref}
 use Rattle.trie_codec.specs.Reading.{node_of_bytes}
