@@ -11,7 +11,7 @@ use Rattle.sdb_base.specs.Nibbles.{nibbles_of}
 use Rattle.trie_model.specs.Trie.{after_prefix}
 use Rattle.trie_root.proofs.Rows.{unlike}
 use Rattle.trie_read.specs.inner.Parts.{is_above, leads_above}
-use Rattle.trie_read.proofs.PartsOfNodes.{IsClosed}
+use Rattle.trie_read.proofs.PartsOfChildren.{IsClosed}
 use Rattle.trie_read.proofs.Ways.{follows}
 
 -- ---- by the first number

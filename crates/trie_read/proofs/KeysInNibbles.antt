@@ -13,7 +13,7 @@ use Rattle.trie_root.specs.Suffixes.{IsEntry}
 use Rattle.trie_root.proofs.ReadOffStates.{in_nibbles}
 use Rattle.trie_root.proofs.Rows.{unlike}
 use Rattle.trie_read.specs.inner.Parts.{goes_on_with, is_near, key_of_nibbles, keys_under}
-use Rattle.trie_read.proofs.PartsOfNodes.{IsClosed}
+use Rattle.trie_read.proofs.PartsOfChildren.{IsClosed}
 use Rattle.trie_read.proofs.Standing.{if_kept, one_under}
 use Rattle.trie_read.proofs.Ways.{follows}
 

@@ -24,3 +24,8 @@ pub mod Led
 pub mod KeysAbove
 pub mod SearchStages
 pub mod Seeking
+pub mod KeptFront
+pub mod FarNodes
+pub mod SearchEnds
+pub mod SearchBegins
+pub mod PartsOfChildren

@@ -15,7 +15,8 @@ use Rattle.trie_read.specs.inner.Parts.{IsPiece, IsStored, OfKey, OfNode, Piece,
 use Rattle.trie_read.proofs.Depths.{first_over}
 use Rattle.trie_read.proofs.Followed.{tail_alike}
 use Rattle.trie_read.proofs.NextStage.{one_of}
-use Rattle.trie_read.proofs.PartsOfNodes.{IsClosed, unfolded}
+use Rattle.trie_read.proofs.PartsOfChildren.{IsClosed}
+use Rattle.trie_read.proofs.PartsOfNodes.{unfolded}
 use Rattle.trie_read.proofs.Sound.{node_sound, sound_below}
 use Rattle.trie_read.proofs.Standing.{gone_first, stand_as, stand_joined}
 

@@ -1,10 +1,9 @@
--- From one node that a search waits for to the next.
-use Rattle.std.proofs.Common.{◌≡◌, ℕ, Bool, true, false, cond, eqb, List, [], ◌∷◌, ◌++◌, Option, Some, None, refl, ap, ap₂, subst, sym, ◌∙◌, inl, inr}
+-- Which nodes are for the answer of a search.
+use Rattle.std.proofs.Common.{◌≡◌, ℕ, Bool, true, false, cond, eqb, List, [], ◌∷◌, ◌++◌, Option, Some, refl, ap, ap₂, subst, sym, ◌∙◌, inl, inr}
 use Rattle.std.specs.Prelude.{◌||◌, All, filter, is_some, nat_eq}
 use Rattle.std.specs.List.{AllByRecursion, flat_map, starts_with}
 use Rattle.std.specs.FinMap.{entries}
 use Rattle.std.proofs.lemmas.Bool.Decides.{eqb_tells}
-use Rattle.std.proofs.lemmas.List.{append-nil}
 use Rattle.std.proofs.lemmas.List.Elements.{filter-append, recursion_from_All}
 use Rattle.sdb_base.specs.Nibbles.{nibbles_of}
 use Rattle.trie_model.specs.Fetches.{keys_of_state, next_key, on_the_way, on_the_way_if}
@@ -14,49 +13,13 @@ use Rattle.trie_model.specs.Trie.{Suffix, after_prefix, below, levels_of, suffix
 use Rattle.trie_root.specs.Suffixes.{IsEntry}
 use Rattle.trie_read.specs.Searches.{is_for_next, keys_above}
 use Rattle.trie_read.specs.inner.Following.{head_at}
-use Rattle.trie_read.specs.inner.Parts.{HangsAbove, IsLed, IsPiece, IsStored, OfKey, OfNode, Piece, StandFor, front_of, gone_into, is_above, keys_for, keys_under, leads_above, nodes_for, rest_of}
-use Rattle.trie_read.proofs.AboveNibbles.{above_closed, above_further, above_off, nibbles_above}
+use Rattle.trie_read.specs.inner.Parts.{HangsAbove, IsStored, OfKey, OfNode, Piece, StandFor, gone_into, is_above, keys_for, keys_under, leads_above, nodes_for}
+use Rattle.trie_read.proofs.AboveNibbles.{above_further, above_off, nibbles_above}
 use Rattle.trie_read.proofs.Among.{Among, among_kept, among_left, among_right}
-use Rattle.trie_read.proofs.KeysAbove.{among_under, head_of, next_is_first, some_under, under_begins}
+use Rattle.trie_read.proofs.KeysAbove.{among_under, head_of, next_is_first, under_begins}
 use Rattle.trie_read.proofs.Rising.{StartsWith, all_kept, all_weaker, rises_over}
-use Rattle.trie_read.proofs.Ways.{follows, put_back}
-
--- ---- what is kept and what is let go
-
-pub front_and_rest : (ps : List Piece) → front_of ps ++ rest_of ps ≡ ps
-front_and_rest [] = refl
-front_and_rest (OfKey k ∷ ps) = refl
-front_and_rest (OfNode h p ∷ []) = refl
-front_and_rest (OfNode h p ∷ (x ∷ ps)) = refl
-
-module _ (ss : List Suffix) (q : List ℕ) where
-  abbrev Keys : List Piece → List (List ℕ)
-  Keys ps = flat_map (keys_for ss (is_above q)) ps
-
-  -- a node that hangs above and stands for something has a key
-  pub has_key : (p : Piece) → IsPiece ss (leads_above q) p → HangsAbove q p → keys_for ss (is_above q) p ≡ [] → ⊥
-  has_key (OfKey k) is above e = let no : k ∷ [] ≡ [] = e in cc
-  has_key (OfNode h p) is above e = elim is.some [
-    | inl root ↦ off_root q (ap (is_above q) (sym root) ∙ above)
-    | inr some ↦ some_under q p (below p ss) above some e
-  ]
-    where
-      off_root : (ns : List ℕ) → is_above ns [] ≡ true → ⊥
-      off_root [] h = let no : false ≡ true = h in cc
-      off_root (x ∷ ns) h = let no : false ≡ true = h in cc
-
-  both_none : (xs ys : List (List ℕ)) → xs ++ ys ≡ [] → (xs ≡ []) × (ys ≡ [])
-  both_none [] ys e = (refl, e)
-  both_none (x ∷ xs) ys e = let no : x ∷ (xs ++ ys) ≡ [] = e in absurd cc
-
-  -- where what is kept has no key, nothing was let go
-  pub nothing_let_go : (ps : List Piece) → AllByRecursion (IsPiece ss (leads_above q)) ps → IsLed q ps → Keys (front_of ps) ≡ [] → (rest_of ps ≡ []) × (Keys ps ≡ [])
-  nothing_let_go [] s l e = (refl, refl)
-  nothing_let_go (OfKey k ∷ ps) s l e = let no : k ∷ [] ≡ [] = e in absurd cc
-  nothing_let_go (OfNode h p ∷ []) s l e = (refl, e)
-  nothing_let_go (OfNode h p ∷ (x ∷ ps)) s l e =
-      let second : keys_for ss (is_above q) x ++ [] ≡ [] = (both_none (keys_under (is_above q) p (below p ss)) (keys_for ss (is_above q) x ++ []) e).1 in
-      absurd (has_key x s.1.0 l.0 (sym (append-nil (keys_for ss (is_above q) x)) ∙ second))
+use Rattle.trie_read.proofs.Ways.{follows}
+use Rattle.trie_read.proofs.KeptFront.{has_key}
 
 -- ---- which nodes are for the answer
 
@@ -157,30 +120,3 @@ module _ (m : State) (key : List ℕ) where
       (fails_all (is_for_next m key) gone
       (all_kept (λ n. is_for_next m key n ≡ false) (λ (n : PathNode). leads_above (nibbles_of key) n.path) (filter is_stored here) (all_kept (λ n. is_for_next m key n ≡ false) is_stored here fail)))
       ∙ none_passes within k ks e ps a.1 (λ there. not (among_right k keys later there))
-
-  -- ---- a node that isn't gone into is not for the answer
-
-  head_kept : (test : List ℕ → Bool) (ks : List (List ℕ)) (k : List ℕ) → head_of (filter test ks) ≡ Some k → test k ≡ true
-  head_kept test ks k e = first (filter test ks) refl e
-    where
-      first : (ls : List (List ℕ)) → filter test ks ≡ ls → head_of ls ≡ Some k → test k ≡ true
-      first [] h x = let no : None ≡ Some k = x in absurd cc
-      first (l ∷ ls) h x = let is : l ≡ k = cc in (among_kept k test ks (subst (λ (ys : List (List ℕ)). Among k ys) (sym h) (inl is))).1
-
-  pub far_fails : (n : PathNode) → leads_above (nibbles_of key) n.path ≡ false → is_for_next m key n ≡ false
-  far_fails n far = ap₂ (λ a b. a || b) (either (starts_with nat_eq (nibbles_of key) n.path) (is_above (nibbles_of key) n.path) far) (next (next_key m key) refl)
-    where
-      either : (a b : Bool) → (a || b) ≡ false → a ≡ false
-      either true b e = let no : true ≡ false = e in absurd cc
-      either false b e = refl
-
-      next : (o : Option (List ℕ)) → next_key m key ≡ o → on_the_way_if o n ≡ false
-      next None e = refl
-      next (Some k) e = follows n.path (nibbles_of k) ∙ on (after_prefix n.path (nibbles_of k)) refl
-        where
-          on : (r : Option (List ℕ)) → after_prefix n.path (nibbles_of k) ≡ r → is_some r ≡ false
-          on None h = refl
-          on (Some r) h =
-              let not : is_above (nibbles_of key) (nibbles_of k) ≡ false =
-              ap (is_above (nibbles_of key)) (sym (put_back n.path (nibbles_of k) r h)) ∙ (above_closed (nibbles_of key)).keys n.path r far in
-              let no : true ≡ false = sym (nibbles_above key k ∙ head_kept (is_above key) (keys_of_state m) k (sym (next_is_first m key) ∙ e)) ∙ not in absurd cc

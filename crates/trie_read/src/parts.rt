@@ -2,7 +2,7 @@ ghost use Rattle.std.specs.Prelude.{◌≡◌, ◌++◌, ◌∷◌, [], length, 
 ghost use Rattle.trie_codec.specs.NodeParts.{child_bytes, node_of_ref};
 ghost use Rattle.trie_codec.specs.Slices.{bytes_in};
 ghost use Rattle.trie_read.specs.inner.Descent.{IsSized};
-ghost use Rattle.trie_read.specs.inner.Parts.{OfNode, key_of_nibbles, child_parts, sought_paths, sought_keys, own_parts, parts_in, as_pieces};
+ghost use Rattle.trie_read.specs.inner.Parts.{as_pieces, child_sought, key_of_nibbles, own_parts, parts_sought, sought_keys, sought_paths};
 
 use crate::descent::{MOST_LEVELS, hash_of};
 use sdb_base::{Bytes, NodeHash, OutOfMemory};
@@ -97,7 +97,8 @@ fn put_own(
     value: Option<&[u8]>,
     out: &mut Vec<Part>,
 ) -> Result<(), OutOfMemory>
-    ensures { OnOk result (as_pieces out.new.items ≡ as_pieces out.old.items ++ own_parts (sought_keys sought.entry) key.now (bytes_in value.entry)) }
+    ensures { OnOk result (as_pieces out.new.items
+        ≡ as_pieces out.old.items ++ own_parts (sought_keys sought.entry) key.now (bytes_in value.entry)) }
 {
     if value.is_some() && sought.keeps(key) {
         out.push(Part::Key(key_of(alloc, key)?))?;
@@ -116,7 +117,7 @@ fn put_parts(
     out: &mut Vec<Part>,
 ) -> Result<(), OutOfMemory>
     ensures { OnOk result (as_pieces out.new.items
-        ≡ as_pieces out.old.items ++ parts_in (sought_keys sought.entry) (sought_paths sought.entry) levels (node_of_ref node.now) path.now) }
+        ≡ as_pieces out.old.items ++ parts_sought sought.entry levels (node_of_ref node.now) path.now) }
 {
     if levels == 0 {
         return Ok(());
@@ -142,8 +143,8 @@ fn put_child(
     out: &mut Vec<Part>,
 ) -> Result<(), OutOfMemory>
     requires { IsSized child }
-    ensures { OnOk result (as_pieces out.new.items ≡ as_pieces out.old.items
-        ++ child_parts (sought_paths sought.entry) (parts_in (sought_keys sought.entry) (sought_paths sought.entry) levels) (end.now ++ nibble ∷ []) (child_bytes child.entry)) }
+    ensures { OnOk result (as_pieces out.new.items
+        ≡ as_pieces out.old.items ++ child_sought sought.entry levels (end.now ++ nibble ∷ []) (child_bytes child.entry)) }
 {
     if let ChildRef::None = child {
         return Ok(());
@@ -173,8 +174,7 @@ pub(crate) fn parts_at(
     path: &[u8],
     node: &NodeRef,
 ) -> Result<Vec<Part>, OutOfMemory>
-    ensures { IfOk result (λ parts. as_pieces parts.items
-        ≡ parts_in (sought_keys sought.entry) (sought_paths sought.entry) 33 (node_of_ref node.now) path.now) }
+    ensures { IfOk result (λ parts. as_pieces parts.items ≡ parts_sought sought.entry 33 (node_of_ref node.now) path.now) }
 {
     let mut parts = Vec::new(alloc);
     put_parts(alloc, MOST_LEVELS, sought, path, node, &mut parts)?;

@@ -98,6 +98,13 @@ parts_in keeps goes (suc levels) n path =
     own_parts keeps (path ++ n.partial) n.value
     ++ flat_map (λ i. child_parts goes (parts_in keeps goes levels) ((path ++ n.partial) ++ i ∷ []) (slice_index_or n.children i None)) every_nibble
 
+-- those of what is sought, of a node and of a child
+abbrev pub parts_sought : Sought → ℕ → Node → List ℕ → List Piece
+parts_sought sought levels n path = parts_in (sought_keys sought) (sought_paths sought) levels n path
+
+abbrev pub child_sought : Sought → ℕ → List ℕ → Option (List ℕ) → List Piece
+child_sought sought levels path c = child_parts (sought_paths sought) (parts_sought sought levels) path c
+
 -- ---- what parts stand for
 
 -- the sought keys of suffixes that hang at a path, and the stored nodes over them that can lead to one

@@ -1,6 +1,6 @@
 use Rattle.std.proofs.Common.{◌∙◌, Some, ap, sym}
 use Rattle.trie_read.specs.declared.parts.Part.{Part}
-use Rattle.trie_read.proofs.Seeking.{all_searched, key_behind}
+use Rattle.trie_read.proofs.SearchEnds.{all_searched, key_behind}
 use Rattle.trie_read.proofs.next_job.NextJob.answer.Goals as goal
 
 pub returns-in-Some-Key : goal.returns-in-Some-Key

@@ -8,7 +8,8 @@ use Rattle.trie_read.specs.inner.Parts.{OfNode, Piece, as_pieces, behind_it, fro
 use Rattle.trie_read.specs.declared.next_job.NextJob.{NextJob}
 use Rattle.trie_read.specs.declared.parts.Part.{Part}
 use Rattle.trie_read.specs.declared.parts.Stored.{Stored}
-use Rattle.trie_read.proofs.Seeking.{Seeks, search_stage, searched, seeks_as}
+use Rattle.trie_read.proofs.SearchEnds.{search_stage}
+use Rattle.trie_read.proofs.Seeking.{Seeks, searched, seeks_as}
 use Rattle.trie_read.proofs.next_job.NextJob.feed.Goals as goal
 
 pub returns-clause-sought : goal.returns-clause-sought

@@ -1,6 +1,6 @@
 use Rattle.std.proofs.Common.{Some, None, ap, refl, ◌∙◌}
 use Rattle.sdb_base.specs.Nibbles.{nibbles_of}
-use Rattle.trie_read.proofs.Seeking.{first_sought}
+use Rattle.trie_read.proofs.SearchBegins.{first_sought}
 use Rattle.trie_read.proofs.next_job.NextJob.new.Goals as goal
 
 pub returns : goal.returns
