@@ -3,12 +3,12 @@ use Rattle.std.proofs.Common.{◌≡◌, ℕ, true, false, List, [], ◌∷◌, 
 use Rattle.std.specs.List.{AllByRecursion, flat_map}
 use Rattle.std.proofs.lemmas.List.{append-nil}
 use Rattle.trie_model.specs.Trie.{Suffix, below}
-use Rattle.trie_read.specs.inner.Parts.{HangsAbove, IsLed, IsPiece, OfKey, OfNode, Piece, front_of, is_above, keys_for, keys_under, leads_above, rest_of}
+use Rattle.trie_read.specs.inner.Parts.{HangsAbove, IsLed, IsPiece, OfKey, OfNode, Piece, first_two_of, is_above, keys_for, keys_under, leads_above, after_two_of}
 use Rattle.trie_read.proofs.KeysAbove.{some_under}
 
 -- ---- what is kept and what is let go
 
-pub front_and_rest : (ps : List Piece) → front_of ps ++ rest_of ps ≡ ps
+pub front_and_rest : (ps : List Piece) → first_two_of ps ++ after_two_of ps ≡ ps
 front_and_rest [] = refl
 front_and_rest (OfKey k ∷ ps) = refl
 front_and_rest (OfNode h p ∷ []) = refl
@@ -35,7 +35,7 @@ module _ (ss : List Suffix) (q : List ℕ) where
   both_none (x ∷ xs) ys e = let no : x ∷ (xs ++ ys) ≡ [] = e in absurd cc
 
   -- where what is kept has no key, nothing was let go
-  pub nothing_let_go : (ps : List Piece) → AllByRecursion (IsPiece ss (leads_above q)) ps → IsLed q ps → Keys (front_of ps) ≡ [] → (rest_of ps ≡ []) × (Keys ps ≡ [])
+  pub nothing_let_go : (ps : List Piece) → AllByRecursion (IsPiece ss (leads_above q)) ps → IsLed q ps → Keys (first_two_of ps) ≡ [] → (after_two_of ps ≡ []) × (Keys ps ≡ [])
   nothing_let_go [] s l e = (refl, refl)
   nothing_let_go (OfKey k ∷ ps) s l e = let no : k ∷ [] ≡ [] = e in absurd cc
   nothing_let_go (OfNode h p ∷ []) s l e = (refl, e)

@@ -12,7 +12,7 @@ use Rattle.trie_model.specs.State.{State}
 use Rattle.trie_model.specs.Trie.{Suffix, below, node_of_all, root_node, suffixes_of, trie_root}
 use Rattle.trie_root.specs.Suffixes.{IsEntry}
 use Rattle.trie_read.specs.Searches.{IsSeeking, is_for_next}
-use Rattle.trie_read.specs.inner.Parts.{IsSettled, OfNode, in_front, is_above, keys_under, leads_above, nodes_under}
+use Rattle.trie_read.specs.inner.Parts.{HasSettled, OfNode, in_front, is_above, keys_under, leads_above, nodes_under}
 use Rattle.trie_read.specs.declared.next_job.NextJob.{NextJob}
 use Rattle.trie_read.specs.declared.parts.Stored.{Stored}
 use Rattle.trie_read.proofs.Hanging.{below-nil}
@@ -57,7 +57,7 @@ first_sought j m key s within nibbles wanted none hash path =
     ap₂ (λ (x y : List ℕ). OfNode x y ∷ []) (sym hash) (sym path) ∙ ap₂ in_front (sym wanted) (sym none) in
     let seeks : Seeks m key (in_front j.wanted j.nearest) [] nodes (next_fetches m key) =
     seeks_as m key (OfNode (trie_root m) [] ∷ []) (in_front j.wanted j.nearest) [] nodes (next_fetches m key) kept (root_seeks m key within) in
-    let settled : IsSettled j.wanted j.nearest = subst (λ (o : Option Stored). IsSettled o j.nearest) (sym wanted) tt in
+    let settled : HasSettled j.wanted j.nearest = subst (λ (o : Option Stored). HasSettled o j.nearest) (sym wanted) tt in
     record {
       within = within;
       key = nibbles;

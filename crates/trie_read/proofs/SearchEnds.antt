@@ -11,7 +11,7 @@ use Rattle.trie_model.specs.State.{State}
 use Rattle.trie_model.specs.Trie.{Suffix, suffixes_of}
 use Rattle.trie_root.specs.Suffixes.{IsEntry}
 use Rattle.trie_read.specs.Searches.{IsSearchStage, IsSeeking, is_for_next, keys_above}
-use Rattle.trie_read.specs.inner.Parts.{IsSettled, OfKey, OfNode, Piece, StandFor, behind_it, in_front, is_above, keys_for, leads_above, nodes_for}
+use Rattle.trie_read.specs.inner.Parts.{HasSettled, OfKey, OfNode, Piece, StandFor, behind_it, in_front, is_above, keys_for, leads_above, nodes_for}
 use Rattle.trie_read.specs.declared.next_job.NextJob.{NextJob}
 use Rattle.trie_read.specs.declared.parts.Part.{Part}
 use Rattle.trie_read.specs.declared.parts.Part.TheVariants as part
@@ -26,7 +26,7 @@ no_next None e = refl
 no_next (Some s) e = let no : Some s.hash.0 ≡ None = e in absurd cc
 
 pub search_stage : (j : NextJob) (m : State) (key : List ℕ) → All IsEntry (entries m) → (others : List Piece) (ns todo : List PathNode)
-    → Seeks m key (in_front j.wanted j.nearest) others ns todo → IsSettled j.wanted j.nearest → IsSearchStage j todo
+    → Seeks m key (in_front j.wanted j.nearest) others ns todo → HasSettled j.wanted j.nearest → IsSearchStage j todo
 search_stage j m key within others ns todo seeks settled = next j.wanted j.nearest refl refl
   where
     ended : j.wanted ≡ None → todo ≡ [] → IsSearchStage j todo
@@ -40,7 +40,7 @@ search_stage j m key within others ns todo seeks settled = next j.wanted j.neare
         let nodes : ns ≡ [] =
         sym seeks.stands.nodes ∙ ap (flat_map (nodes_for ss (leads_above (nibbles_of key)))) (ap₂ (λ (xs ys : List Piece). xs ++ ys) kept nothing) in
         ended e (sym seeks.wants ∙ ap (filter (is_for_next m key)) nodes)
-    next None (Some (part.Node s)) e f = let no : ⊥ = subst (λ (b : Option Part). IsSettled None b) f (subst (λ (o : Option Stored). IsSettled o j.nearest) e settled) in absurd no
+    next None (Some (part.Node s)) e f = let no : ⊥ = subst (λ (b : Option Part). HasSettled None b) f (subst (λ (o : Option Stored). HasSettled o j.nearest) e settled) in absurd no
     next None (Some (part.Key k)) e f =
         let ss : List Suffix = suffixes_of m in
         let q : List ℕ = nibbles_of key in
@@ -86,4 +86,4 @@ all_searched j m key w = next j.nearest refl
         sym w.stands.keys ∙ ap (λ (ps : List Piece). flat_map (keys_for ss (is_above q)) (ps ++ w.others)) front in
         ap key_behind f ∙ sym (next_is_first m key ∙ ap head_of keys)
     next (Some (part.Node s)) f =
-        let no : ⊥ = subst (λ (b : Option Part). IsSettled None b) f (subst (λ (o : Option Stored). IsSettled o j.nearest) (no_next j.wanted w.stage.0) w.stage.1) in absurd no
+        let no : ⊥ = subst (λ (b : Option Part). HasSettled None b) f (subst (λ (o : Option Stored). HasSettled o j.nearest) (no_next j.wanted w.stage.0) w.stage.1) in absurd no

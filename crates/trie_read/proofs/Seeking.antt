@@ -14,7 +14,7 @@ use Rattle.trie_codec.specs.Reading.{node_of_bytes}
 use Rattle.trie_root.specs.Suffixes.{IsEntry}
 use Rattle.trie_read.specs.Searches.{is_for_next, keys_above}
 use Rattle.trie_read.specs.inner.Following.{head_at}
-use Rattle.trie_read.specs.inner.Parts.{HangsAbove, IsLed, IsPiece, OfNode, Piece, StandFor, front_of, gone_into, is_above, keys_for, keys_under, leads_above, nodes_for, parts_in, rest_of}
+use Rattle.trie_read.specs.inner.Parts.{HangsAbove, IsLed, IsPiece, OfNode, Piece, StandFor, first_two_of, gone_into, is_above, keys_for, keys_under, leads_above, nodes_for, parts_in, after_two_of}
 use Rattle.trie_read.proofs.AboveNibbles.{above_closed}
 use Rattle.trie_read.proofs.Binding.{sound_state}
 use Rattle.trie_read.proofs.Followed.{tail_alike}
@@ -47,7 +47,7 @@ first_wanted m key within h p rest ns todo stand a wants =
 
 pub searched : (m : State) (key : List ℕ) → All IsEntry (entries m) → (h p : List ℕ) (behind others parts : List Piece) (ns : List PathNode) (n : PathNode) (todo : List PathNode) (found : Node)
     → Seeks m key (OfNode h p ∷ behind) others ns (n ∷ todo) → node_of_bytes n.bytes ≡ Ok found → parts ≡ parts_in (is_above (nibbles_of key)) (leads_above (nibbles_of key)) 33 found p
-    → (ms : List PathNode) × Seeks m key (front_of (parts ++ behind)) (rest_of (parts ++ behind) ++ others) ms todo
+    → (ms : List PathNode) × Seeks m key (first_two_of (parts ++ behind)) (after_two_of (parts ++ behind) ++ others) ms todo
 searched m key within h p behind others parts ns n todo found seeks e parts_are =
     let ss : List Suffix = suffixes_of m in
     let q : List ℕ = nibbles_of key in
@@ -64,8 +64,8 @@ searched m key within h p behind others parts ns n todo found seeks e parts_are 
     let after : StandFor ss (is_above q) (leads_above q) (parts ++ rest) keys list =
     one_fed ss (is_above q) (leads_above q) (sound_state m within) (above_closed q) [] keys h p rest parts (head_at ss p) list found before
     (ap (λ (x : PathNode). node_of_bytes x.bytes) (sym same) ∙ e) parts_are in
-    let regrouped : parts ++ rest ≡ front_of w ++ (rest_of w ++ others) =
-    sym (append_assoc parts behind others) ∙ ap (λ (ps : List Piece). ps ++ others) (sym (front_and_rest w)) ∙ append_assoc (front_of w) (rest_of w) others in
+    let regrouped : parts ++ rest ≡ first_two_of w ++ (after_two_of w ++ others) =
+    sym (append_assoc parts behind others) ∙ ap (λ (ps : List Piece). ps ++ others) (sym (front_and_rest w)) ∙ append_assoc (first_two_of w) (after_two_of w) others in
     let parts_first : IsLed q parts = subst (λ (ps : List Piece). IsLed q ps) (sym parts_are) (parts_led q 33 found p) in
     let above : AllByRecursion (HangsAbove q) behind × AllByRecursion (HangsAbove q) others = all_split (HangsAbove q) behind others seeks.led in
     let sound : AllByRecursion (IsPiece ss (leads_above q)) w × AllByRecursion (IsPiece ss (leads_above q)) others =
@@ -75,8 +75,8 @@ searched m key within h p behind others parts ns n todo found seeks e parts_are 
     let one_parts : flat_map (keys_for ss (is_above q)) parts ≡ here =
     append_cancel_right (flat_map (keys_for ss (is_above q)) parts) here later
     (sym (flat_map-append (keys_for ss (is_above q)) parts rest) ∙ after.keys ∙ sym seeks.stands.keys) in
-    let enough : flat_map (keys_for ss (is_above q)) (front_of w) ≡ [] → rest_of w ++ others ≡ [] = λ none.
-    let both : (rest_of w ≡ []) × (flat_map (keys_for ss (is_above q)) w ≡ []) = nothing_let_go ss q w sound.0 (led_joined q parts behind parts_first above.0) none in
+    let enough : flat_map (keys_for ss (is_above q)) (first_two_of w) ≡ [] → after_two_of w ++ others ≡ [] = λ none.
+    let both : (after_two_of w ≡ []) × (flat_map (keys_for ss (is_above q)) w ≡ []) = nothing_let_go ss q w sound.0 (led_joined q parts behind parts_first above.0) none in
     let kept : flat_map (keys_for ss (is_above q)) (OfNode h p ∷ behind) ≡ [] =
     ap (λ (ks : List (List ℕ)). ks ++ flat_map (keys_for ss (is_above q)) behind) (sym one_parts)
     ∙ sym (flat_map-append (keys_for ss (is_above q)) parts behind) ∙ both.1 in

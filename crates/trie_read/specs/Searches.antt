@@ -10,7 +10,7 @@ use Rattle.trie_model.specs.Nodes.{PathNode}
 use Rattle.trie_model.specs.State.{State}
 use Rattle.trie_model.specs.Trie.{suffixes_of}
 use Rattle.trie_root.specs.Suffixes.{IsEntry}
-use Rattle.trie_read.specs.inner.Parts.{IsLed, IsSettled, Piece, StandFor, depth_of, in_front, is_above, keys_for, leads_above}
+use Rattle.trie_read.specs.inner.Parts.{IsLed, HasSettled, Piece, StandFor, depth_of, in_front, is_above, keys_for, leads_above}
 use Rattle.trie_read.specs.declared.next_job.NextJob.{NextJob}
 use Rattle.trie_read.specs.declared.parts.Stored.{Stored}
 
@@ -32,7 +32,7 @@ is_for_next m key n = on_the_way (nibbles_of key) n || on_the_way_if (next_key m
 
 -- the next node to be fed is wanted; where there is none, none is wanted, and what is nearest is a key or nothing
 abbrev pub IsSearchStage : NextJob → List PathNode → Type 0
-IsSearchStage j [] = (search_wanted j ≡ None) × IsSettled j.wanted j.nearest
+IsSearchStage j [] = (search_wanted j ≡ None) × HasSettled j.wanted j.nearest
 IsSearchStage j (n ∷ todo) = search_wanted j ≡ Some (H n.bytes)
 
 -- The job searches for the state's least key above a key, and these nodes are still to be fed. What it keeps is the front of

@@ -1,5 +1,5 @@
 ghost use Rattle.std.specs.Prelude.{◌≡◌, ◌++◌, reverse};
-ghost use Rattle.trie_read.specs.inner.Parts.{IsSettled, as_pieces, behind_it, front_of, in_front};
+ghost use Rattle.trie_read.specs.inner.Parts.{HasSettled, as_pieces, behind_it, first_two_of, in_front};
 
 use crate::descent::read_at;
 use crate::fault::TrieFault;
@@ -107,8 +107,8 @@ fn reversed(mut parts: Vec<Part>) -> Vec<Part>
 // Of what a node has, and of what lies behind it, a stored node that comes first and what follows it; or a key that comes
 // first.
 fn first_of(parts: Vec<Part>, behind: Option<Part>) -> (Option<Stored>, Option<Part>)
-    ensures front { in_front result.0 result.1 ≡ front_of (as_pieces parts.items ++ behind_it behind) }
-    ensures settled { IsSettled result.0 result.1 }
+    ensures front { in_front result.0 result.1 ≡ first_two_of (as_pieces parts.items ++ behind_it behind) }
+    ensures settled { HasSettled result.0 result.1 }
 {
     let mut left = reversed(parts);
     match left.pop() {

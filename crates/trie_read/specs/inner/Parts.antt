@@ -153,24 +153,24 @@ abbrev pub in_front : Option Stored → Option Part → List Piece
 in_front next nearest = next_piece next ++ behind_it nearest
 
 -- of parts in their order a first key, or a first node and what comes behind it; and the others
-abbrev pub front_of : List Piece → List Piece
-front_of [] = []
-front_of (OfKey key ∷ ps) = OfKey key ∷ []
-front_of (OfNode hash path ∷ []) = OfNode hash path ∷ []
-front_of (OfNode hash path ∷ (p ∷ ps)) = OfNode hash path ∷ (p ∷ [])
+abbrev pub first_two_of : List Piece → List Piece
+first_two_of [] = []
+first_two_of (OfKey key ∷ ps) = OfKey key ∷ []
+first_two_of (OfNode hash path ∷ []) = OfNode hash path ∷ []
+first_two_of (OfNode hash path ∷ (p ∷ ps)) = OfNode hash path ∷ (p ∷ [])
 
-abbrev pub rest_of : List Piece → List Piece
-rest_of [] = []
-rest_of (OfKey key ∷ ps) = ps
-rest_of (OfNode hash path ∷ []) = []
-rest_of (OfNode hash path ∷ (p ∷ ps)) = ps
+abbrev pub after_two_of : List Piece → List Piece
+after_two_of [] = []
+after_two_of (OfKey key ∷ ps) = ps
+after_two_of (OfNode hash path ∷ []) = []
+after_two_of (OfNode hash path ∷ (p ∷ ps)) = ps
 
 -- where no node comes next there is a key or nothing
-abbrev pub IsSettled : Option Stored → Option Part → Type 0
-IsSettled (Some stored) nearest = Unit {0}
-IsSettled None None = Unit {0}
-IsSettled None (Some (part.Key key)) = Unit {0}
-IsSettled None (Some (part.Node stored)) = ⊥
+abbrev pub HasSettled : Option Stored → Option Part → Type 0
+HasSettled (Some stored) nearest = Unit {0}
+HasSettled None None = Unit {0}
+HasSettled None (Some (part.Key key)) = Unit {0}
+HasSettled None (Some (part.Node stored)) = ⊥
 
 -- a node that hangs above the nibbles, and not on their way; of all parts but the first the nodes do
 abbrev pub HangsAbove : List ℕ → Piece → Type 0

@@ -4,7 +4,7 @@ use Rattle.trie_codec.specs.NodeParts.{node_of_ref}
 use Rattle.trie_codec.specs.Reading.{node_of_bytes}
 use Rattle.trie_model.specs.Node.{Node}
 use Rattle.trie_model.specs.Nodes.{PathNode}
-use Rattle.trie_read.specs.inner.Parts.{OfNode, Piece, as_pieces, behind_it, front_of, in_front, is_above, leads_above, parts_in, rest_of}
+use Rattle.trie_read.specs.inner.Parts.{OfNode, Piece, as_pieces, behind_it, first_two_of, in_front, is_above, leads_above, parts_in, after_two_of}
 use Rattle.trie_read.specs.declared.next_job.NextJob.{NextJob}
 use Rattle.trie_read.specs.declared.parts.Part.{Part}
 use Rattle.trie_read.specs.declared.parts.Stored.{Stored}
@@ -26,13 +26,13 @@ returns-clause-sought c = λ m key n todo seeking bytes.
     (record { stands = seeking.stands; led = seeking.led; enough = seeking.enough; wants = seeking.wants }) in
     let are : parts ≡ parts_in (is_above q) (leads_above q) 33 node s.path.items =
     c.in-Ok.ensures ∙ ap₂ (λ (x p : List ℕ). parts_in (is_above x) (leads_above x) 33 node p) (c.as_slice.ensures ∙ seeking.key) c.as_slice-2.ensures in
-    let after : (ms : List PathNode) × Seeks m key (front_of (parts ++ behind)) (rest_of (parts ++ behind) ++ seeking.others) ms todo =
+    let after : (ms : List PathNode) × Seeks m key (first_two_of (parts ++ behind)) (after_two_of (parts ++ behind) ++ seeking.others) ms todo =
     searched m key seeking.within s.hash.0 s.path.items behind seeking.others parts seeking.nodes n todo node before (ap node_of_bytes (sym bytes) ∙ c.in-Some-read_at.ensures.node) are in
-    let front : in_front new.wanted new.nearest ≡ front_of (parts ++ behind) =
-    c.first_of-wanted.ensures.front ∙ ap (λ (o : Option Part). front_of (parts ++ behind_it o)) c.replace.ensures.value in
-    let others : List Piece = rest_of (parts ++ behind) ++ seeking.others in
+    let front : in_front new.wanted new.nearest ≡ first_two_of (parts ++ behind) =
+    c.first_of-wanted.ensures.front ∙ ap (λ (o : Option Part). first_two_of (parts ++ behind_it o)) c.replace.ensures.value in
+    let others : List Piece = after_two_of (parts ++ behind) ++ seeking.others in
     let seeks : Seeks m key (in_front new.wanted new.nearest) others after.0 todo =
-    seeks_as m key (front_of (parts ++ behind)) (in_front new.wanted new.nearest) others after.0 todo (sym front) after.1 in
+    seeks_as m key (first_two_of (parts ++ behind)) (in_front new.wanted new.nearest) others after.0 todo (sym front) after.1 in
     record {
       within = seeking.within;
       key = seeking.key;
