@@ -51,19 +51,19 @@ key_of_nibbles (n ∷ (k ∷ ns)) = (16 * (n % 16) + k % 16) ∷ key_of_nibbles 
 
 -- ---- which keys are sought
 
--- whether a path leads to nibbles, or goes on with them; whether a key does
+-- whether a key goes on with nibbles; whether a path leads to them, or goes on with them
+abbrev pub goes_on_with : List ℕ → List ℕ → Bool
+goes_on_with nibbles key = starts_with nat_eq key nibbles
+
 abbrev pub is_near : List ℕ → List ℕ → Bool
 is_near nibbles path = starts_with nat_eq nibbles path || starts_with nat_eq path nibbles
 
--- whether nibbles are above others; whether a path leads to nibbles, or is above them
+-- whether a key is above nibbles; whether a path leads to them, or is above them
 abbrev pub is_above : List ℕ → List ℕ → Bool
 is_above nibbles key = is_lt (slice_cmp nat_cmp nibbles key)
 
 abbrev pub leads_above : List ℕ → List ℕ → Bool
 leads_above nibbles path = starts_with nat_eq nibbles path || is_above nibbles path
-
-abbrev pub goes_on_with : List ℕ → List ℕ → Bool
-goes_on_with nibbles key = starts_with nat_eq key nibbles
 
 -- whether a key of these nibbles is sought, and whether one below a path can be
 abbrev pub sought_keys : Sought → List ℕ → Bool
@@ -74,8 +74,9 @@ abbrev pub sought_paths : Sought → List ℕ → Bool
 sought_paths (Beginning prefix) path = is_near prefix.now path
 sought_paths (Above nibbles) path = leads_above nibbles.now path
 
--- ---- of one node
+-- ---- what there is of one node, where a test says which keys are kept, and another which paths are gone into
 
+-- its own key
 abbrev pub own_parts : (List ℕ → Bool) → List ℕ → Option (List ℕ) → List Piece
 own_parts keeps key None = []
 own_parts keeps key (Some value) = if keeps key then OfKey (key_of_nibbles key) ∷ [] else []
@@ -84,6 +85,7 @@ abbrev pub inline_parts : (Node → List Piece) → Result Node CodecFault → L
 inline_parts go (Ok n) = go n
 inline_parts go (Err f) = []
 
+-- what there is at a child: a stored node, or what an inline one has
 abbrev pub parts_there : (Node → List ℕ → List Piece) → List ℕ → Option (List ℕ) → List Piece
 parts_there go path None = []
 parts_there go path (Some c) = if length c == 32 then OfNode c path ∷ [] else inline_parts (λ n. go n path) (node_of_bytes c)
@@ -91,7 +93,7 @@ parts_there go path (Some c) = if length c == 32 then OfNode c path ∷ [] else 
 abbrev pub child_parts : (List ℕ → Bool) → (Node → List ℕ → List Piece) → List ℕ → Option (List ℕ) → List Piece
 child_parts goes go path c = if goes path then parts_there go path c else []
 
--- with at most so many inline nodes one below the other
+-- the node's own key and what there is at its children, with at most so many inline nodes one below the other
 unfoldable pub parts_in : (List ℕ → Bool) → (List ℕ → Bool) → ℕ → Node → List ℕ → List Piece
 parts_in keeps goes zero n path = []
 parts_in keeps goes (suc levels) n path =
@@ -125,7 +127,7 @@ abbrev pub nodes_for : List Suffix → (List ℕ → Bool) → Piece → List Pa
 nodes_for suffixes goes (OfKey key) = []
 nodes_for suffixes goes (OfNode hash path) = nodes_under goes path (below path suffixes)
 
--- the part of a node is that of a stored one
+-- a stored node that is gone into, by its hash; only the root can be over no suffixes
 pub record IsStored (suffixes : List Suffix) (goes : List ℕ → Bool) (hash path : List ℕ) : Type 0 where
   pub is_hash : hash ≡ H (spelling (node_at suffixes path))
   pub stored : is_stored (head_at suffixes path) ≡ true
@@ -136,7 +138,7 @@ abbrev pub IsPiece : List Suffix → (List ℕ → Bool) → Piece → Type 0
 IsPiece suffixes goes (OfKey key) = Unit {0}
 IsPiece suffixes goes (OfNode hash path) = IsStored suffixes goes hash path
 
--- parts that stand for these keys and these nodes
+-- parts that stand for these keys and these nodes, one after the other
 pub record StandFor (suffixes : List Suffix) (keeps goes : List ℕ → Bool) (parts : List Piece) (ks : List (List ℕ)) (ns : List PathNode) : Type 0 where
   pub sound : AllByRecursion (IsPiece suffixes goes) parts
   pub keys : flat_map (keys_for suffixes keeps) parts ≡ ks
