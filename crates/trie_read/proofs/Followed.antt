@@ -42,7 +42,7 @@ value_there ss p ks = ap value_here (below-append p ks ss)
 
 -- ---- an inline child of a node is one on a level less
 
-child_within : (l : ℕ) (n m : Node) (i : ℕ) (c : List ℕ) → IsNodeWithin (suc l) n → i < 16 → get_or n.children i None ≡ Some c → length c < 32 → IsNode m → c ≡ spelling m
+pub child_within : (l : ℕ) (n m : Node) (i : ℕ) (c : List ℕ) → IsNodeWithin (suc l) n → i < 16 → get_or n.children i None ≡ Some c → length c < 32 → IsNode m → c ≡ spelling m
     → l ≤ 32 → IsNodeWithin l m
 unfolding IsNodeWithin
 child_within l n m i c h small e short k is few =
@@ -54,7 +54,7 @@ child_within l n m i c h small e short k is few =
           subst (IsNodeWithin l) same w.2
     ]
 
-not_kept : (q b : List ℕ) (x : ℕ) (r : List ℕ) (xs : List PathNode) → q ≡ r ++ x ∷ [] → length b < 32 → filter is_stored (record { path = q; bytes = b } ∷ xs) ≡ filter is_stored xs
+pub not_kept : (q b : List ℕ) (x : ℕ) (r : List ℕ) (xs : List PathNode) → q ≡ r ++ x ∷ [] → length b < 32 → filter is_stored (record { path = q; bytes = b } ∷ xs) ≡ filter is_stored xs
 not_kept q b x r xs e h =
     let long : eqb (length q) 0 ≡ false = unlike (length q) 0 (λ z. nonempty r (sym (ap length e) ∙ z)) in
     let short : ltb 31 (length b) ≡ false = grind arith in
@@ -103,11 +103,11 @@ child_long g o rest b e h =
     hashed_way g (H b) rest (length-hash b) ∙ ap (λ c. child_way g c rest) (sym is)
 
 -- an inline child's bytes are its child's place
-short_child : (o : Option (List ℕ)) (b : List ℕ) → o ≡ Some (merkle_value b) → length b < 32 → o ≡ Some b
+pub short_child : (o : Option (List ℕ)) (b : List ℕ) → o ≡ Some (merkle_value b) → length b < 32 → o ≡ Some b
 unfolding merkle_value
 short_child o b e h = let short : ltb (length b) 32 ≡ true = grind arith in rw short at e
 
-has_children : (l : ℕ) (n : Node) → IsNodeWithin (suc l) n → length n.children ≡ 16
+pub has_children : (l : ℕ) (n : Node) → IsNodeWithin (suc l) n → length n.children ≡ 16
 unfolding IsNodeWithin
 has_children l n h = h.sixteen
 
@@ -115,7 +115,7 @@ way_step : (l : ℕ) (n : Node) (ks : List ℕ) → way_down (suc l) n ks ≡ wa
 unfolding way_down
 way_step l n ks = refl
 
-no_levels : (n : Node) → IsNodeWithin 0 n → ⊥
+pub no_levels : (n : Node) → IsNodeWithin 0 n → ⊥
 unfolding IsNodeWithin
 no_levels n h = h
 

@@ -24,7 +24,7 @@ use Rattle.trie_read.proofs.Hanging.{alike, below-nil}
 use Rattle.trie_read.proofs.Sound.{node_sound, sound_below}
 use Rattle.trie_read.proofs.Ways.{found_at_its_nibbles}
 
-one_of : (a b : Node) → ◌≡◌ {A = Result Node CodecFault} (Ok a) (Ok b) → a ≡ b
+pub one_of : (a b : Node) → ◌≡◌ {A = Result Node CodecFault} (Ok a) (Ok b) → a ≡ b
 one_of a b e = cc
 
 pub next : (m : State) → All IsEntry (entries m) → (key : List ℕ) (at : ℕ) (n : PathNode) (others : List PathNode) → key ≡ n.path ++ drop at key

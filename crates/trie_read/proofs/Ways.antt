@@ -30,7 +30,7 @@ use Rattle.trie_read.proofs.Rising.{StartsWith, rises_over}
 
 -- ---- whether a path begins some nibbles
 
-follows : (q ks : List ℕ) → starts_with nat_eq ks q ≡ is_some (after_prefix q ks)
+pub follows : (q ks : List ℕ) → starts_with nat_eq ks q ≡ is_some (after_prefix q ks)
 follows [] ks = refl
 follows (x ∷ q) [] = refl
 follows (x ∷ q) (k ∷ ks) =
@@ -99,7 +99,7 @@ kept_if_any : (test : PathNode → Bool) (f : List Suffix → List PathNode) (us
 kept_if_any test f [] = refl
 kept_if_any test f (u ∷ us) = refl
 
-starts_if_any : (d : ℕ) (q : List ℕ) (us : List Suffix) → AllByRecursion (StartsWith q) (if_any (nodes_over d q) us)
+pub starts_if_any : (d : ℕ) (q : List ℕ) (us : List Suffix) → AllByRecursion (StartsWith q) (if_any (nodes_over d q) us)
 starts_if_any d q [] = tt
 starts_if_any d q (u ∷ us) = (rises_over d q (u ∷ us)).1
 

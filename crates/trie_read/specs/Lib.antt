@@ -3,3 +3,5 @@ pub mod Collision
 pub mod Depth
 pub mod inner
 pub mod Reads
+pub mod Walks
+pub mod Searches

@@ -1,2 +1,3 @@
 pub mod Descent
 pub mod Following
+pub mod Parts

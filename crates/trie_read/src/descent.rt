@@ -142,3 +142,13 @@ pub(crate) fn read_at(at: usize, bytes: &[u8]) -> Option<NodeRef<'_>>
     }
     Some(node)
 }
+
+// A hash in a node.
+pub(crate) fn hash_of(bytes: &[u8]) -> [u8; 32]
+    requires { length bytes.now ≡ 32 }
+    ensures { result ≡ bytes.now }
+{
+    let mut hash = [0; 32];
+    hash.copy_from_slice(bytes);
+    hash
+}

@@ -1,7 +1,7 @@
 ghost use Rattle.std.specs.Prelude.{◌≡◌, ◌*◌, ◌≤◌, length, IfOk};
 ghost use Rattle.trie_codec.specs.Slices.{bytes_in};
 
-use crate::descent::{Found, MOST_LEVELS, read_at, walk};
+use crate::descent::{Found, MOST_LEVELS, hash_of, read_at, walk};
 use crate::fault::TrieFault;
 use sdb_base::{Bytes, NodeHash, OutOfMemory};
 use std::alloc::Global;
@@ -98,13 +98,4 @@ fn copied(alloc: Global, value: Option<&[u8]>) -> Result<Option<Bytes>, OutOfMem
         Some(value) => Ok(Some(Bytes::from_slice(alloc, value)?)),
         None => Ok(None),
     }
-}
-
-fn hash_of(bytes: &[u8]) -> [u8; 32]
-    requires { length bytes.now ≡ 32 }
-    ensures { result ≡ bytes.now }
-{
-    let mut hash = [0; 32];
-    hash.copy_from_slice(bytes);
-    hash
 }
