@@ -1,0 +1,4 @@
+pub mod Values
+pub mod Unchanged
+pub mod Found
+pub mod Carried

@@ -1,0 +1,13 @@
+//! What a change keeps of a trie, as laws.
+//!
+//! A change sets or deletes keys of a state. The state's trie changes on the way to these keys, and where a node comes to hang
+//! at another path as the one above it is split or merged. The laws here say that nothing else changes, so that a job that
+//! knows the nodes of `change_fetches` alone can make the new ones and name those that are dropped.
+//!
+//! They run nothing: each is the contract of a function with an empty body. The definitions are those of `trie_model`, and
+//! `keys_in_changes` for the keys that changes name. How a trie is changed is left to the layer above.
+#![tactic(auto)]
+
+mod laws;
+
+pub use laws::{other_keys_stay, what_is_not_fetched_stays};
