@@ -10,4 +10,7 @@
 
 mod laws;
 
-pub use laws::{other_keys_stay, what_is_not_fetched_stays};
+pub use laws::{
+    children_keep_their_paths, no_changes_fetch_nothing, one_change_after_another, other_keys_stay,
+    setting_the_same_value, what_is_not_fetched_stays, what_is_put_is_new_at_its_path,
+};
