@@ -20,7 +20,8 @@ alike x y e k = λ i. record { path = e i; bytes = k i }
 -- nodes that hang at one path over the same suffixes are one node
 one_at : (ss ts : List Suffix) (n o : PathNode) → IsHung ss n → IsHung ts o → o.path ≡ n.path → below n.path ts ≡ below n.path ss → o ≡ n
 one_at ss ts n o h k at same =
-    alike o n at (k.bytes ∙ ap (λ (p : List ℕ). spelling (node_of_all (below p ts))) at ∙ ap (λ (us : List Suffix). spelling (node_of_all us)) same ∙ sym h.bytes)
+    alike o n at (k.bytes ∙ ap (λ (p : List ℕ). spelling (node_of_all (below p ts))) at
+    ∙ ap (λ (us : List Suffix). spelling (node_of_all us)) same ∙ sym h.bytes)
 
 -- where a path has a node in both tries, and they have the same suffixes below it, the one node is in both
 pub carried : (ss ts : List Suffix) (n : PathNode) → Among n (all_over ss) → below n.path ts ≡ below n.path ss → has_path (all_over ts) n.path ≡ true
@@ -49,11 +50,16 @@ handled m cs n a = by_tests (is_changed keys n) (has_path after n.path) refl ref
     after : List PathNode
     after = all_nodes (apply m cs)
 
+    on_the_way : List PathNode
+    on_the_way = filter (is_changed keys) (stored_nodes m)
+
+    unhung : List PathNode
+    unhung = filter (is_unhung after keys) (stored_nodes m)
+
     by_tests : (b c : Bool) → is_changed keys n ≡ b → has_path after n.path ≡ c → IsHandled m cs n
-    by_tests true c h k =
-        fetched (among_left n (filter (is_changed keys) (stored_nodes m)) (filter (is_unhung after keys) (stored_nodes m)) (kept_among n (is_changed keys) (stored_nodes m) a h))
+    by_tests true c h k = fetched (among_left n on_the_way unhung (kept_among n (is_changed keys) (stored_nodes m) a h))
     by_tests false false h k =
-        fetched (among_right n (filter (is_changed keys) (stored_nodes m)) (filter (is_unhung after keys) (stored_nodes m))
+        fetched (among_right n on_the_way unhung
         (kept_among n (is_unhung after keys) (stored_nodes m) a (ap₂ (λ (x y : Bool). not x && not y) h k)))
     by_tests false true h k = left (carried_stored m (apply m cs) n a (below_stays m cs n h) k)
 

@@ -1,5 +1,5 @@
--- Nodes and paths that a list is told to have, and tests that keep nothing of it.
-use Rattle.std.proofs.Common.{◌≡◌, ℕ, Bool, true, false, cond, List, [], ◌∷◌, refl, ap, ap₂, subst, sym, ◌∙◌, inl, inr}
+-- Nodes and paths that a list has, and tests that keep nothing of it.
+use Rattle.std.proofs.Common.{◌≡◌, ℕ, Bool, true, false, cond, List, [], ◌∷◌, refl, ap, ap₂, sym, ◌∙◌, inl, inr}
 use Rattle.std.specs.Prelude.{◌&&◌, ◌||◌, filter}
 use Rattle.std.specs.Str.{bytes_eq}
 use Rattle.std.proofs.lemmas.Slice.Eq.{bytes_eq-Decides}
@@ -14,7 +14,8 @@ pub path_found : (ns : List PathNode) (path : List ℕ) → has_path ns path ≡
 path_found [] path e = absurd cc
 path_found (n ∷ ns) path e = by_test (path_found ns path) (bytes_eq n.path path) refl
   where
-    by_test : (has_path ns path ≡ true → (o : PathNode) × (o.path ≡ path) × Among o ns) → (b : Bool) → bytes_eq n.path path ≡ b → (o : PathNode) × (o.path ≡ path) × Among o (n ∷ ns)
+    by_test : (has_path ns path ≡ true → (o : PathNode) × (o.path ≡ path) × Among o ns)
+        → (b : Bool) → bytes_eq n.path path ≡ b → (o : PathNode) × (o.path ≡ path) × Among o (n ∷ ns)
     by_test more true h = (n, (bytes_eq-Decides n.path path).0 h, inl refl)
     by_test more false h =
         let further : (o : PathNode) × (o.path ≡ path) × Among o ns = more (sym (ap (λ b. b || has_path ns path) h) ∙ e) in
@@ -32,7 +33,8 @@ has_it (o ∷ ns) n (inl e) =
     ap₂ (λ (a b : Bool). (a && b) || has_node ns n) ((bytes_eq-Decides o.path n.path).1 (ap (λ (x : PathNode). x.path) e))
     ((bytes_eq-Decides o.bytes n.bytes).1 (ap (λ (x : PathNode). x.bytes) e))
 has_it (o ∷ ns) n (inr a) =
-    ap (λ b. (bytes_eq o.path n.path && bytes_eq o.bytes n.bytes) || b) (has_it ns n a) ∙ or_true (bytes_eq o.path n.path && bytes_eq o.bytes n.bytes)
+    ap (λ b. (bytes_eq o.path n.path && bytes_eq o.bytes n.bytes) || b) (has_it ns n a)
+    ∙ or_true (bytes_eq o.path n.path && bytes_eq o.bytes n.bytes)
 
 pub nothing_kept : (test : PathNode → Bool) (ns : List PathNode) → ((n : PathNode) → Among n ns → test n ≡ false) → filter test ns ≡ []
 nothing_kept test [] none = refl

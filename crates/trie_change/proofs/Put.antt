@@ -1,5 +1,5 @@
 -- A node that a change puts is on the way to a changed key, or at a path where none hung.
-use Rattle.std.proofs.Common.{◌≡◌, ◌⊎◌, ℕ, Bool, true, false, List, refl, ap, sym, ◌∙◌, inl, inr}
+use Rattle.std.proofs.Common.{◌≡◌, ◌⊎◌, Bool, true, false, List, refl, ap, sym, ◌∙◌, inl, inr}
 use Rattle.std.specs.Prelude.{Contains, not}
 use Rattle.sdb_base.specs.declared.Change.{Change}
 use Rattle.trie_model.specs.Fetches.{is_changed}

@@ -1,6 +1,6 @@
 -- Two states that agree on the keys that go on with a path have the same suffixes below it.
 use Rattle.std.proofs.Common.{◌≡◌, ℕ, Bool, true, false, eqb, cond, List, [], ◌∷◌, map, Option, Some, None, refl, ap, subst, sym, ◌∙◌, inl, inr}
-use Rattle.std.specs.Prelude.{◌&&◌, ◌||◌, filter, is_some, nat_eq}
+use Rattle.std.specs.Prelude.{◌&&◌, ◌||◌, is_some, nat_eq}
 use Rattle.std.specs.List.{cons_option, list_any, starts_with}
 use Rattle.std.specs.Option.{option_map}
 use Rattle.std.specs.Ordering.{nat_cmp}

@@ -1,11 +1,13 @@
 //! What a change keeps of a trie, as laws.
 //!
-//! A change sets or deletes keys of a state. The state's trie changes on the way to these keys, and where a node comes to hang
-//! at another path as the one above it is split or merged. The laws here say that nothing else changes, so that a job that
-//! knows the nodes of `change_fetches` alone can make the new ones and name those that are dropped.
+//! A change sets and deletes keys of a state. It fetches the stored nodes on the way to these keys, and those at whose paths
+//! the changed trie has no node. The laws here say that these are enough to name what is dropped, and what stays whole
+//! beside them: each stored node that isn't fetched is stored afterwards too; a node that is put is on the way to a changed
+//! key, or where none hung before; and below a path that begins no changed key all nodes are the same, whether the node there
+//! came by a split or a merge or hung there already.
 //!
-//! They run nothing: each is the contract of a function with an empty body. The definitions are those of `trie_model`, and
-//! `keys_in_changes` for the keys that changes name. How a trie is changed is left to the layer above.
+//! The laws run nothing: each is the contract of a function with an empty body. The definitions are those of `trie_model`,
+//! with `keys_in_changes` for the keys that changes name. How the new nodes are made is left to the layer above.
 #![tactic(auto)]
 
 mod laws;
