@@ -1,5 +1,6 @@
 -- Which cells hold a column's content, while no index grows.
-use Rattle.std.specs.Prelude.{◌≡◌, ◌≤◌, ℕ}
+use Rattle.std.specs.Prelude.{◌≡◌, ◌≤◌, ℕ, List, Some}
+use Rattle.sdb_base.specs.Content.{Counted}
 use Rattle.pdb_cells.specs.Content.{Content}
 use Rattle.pdb_model.specs.Columns.{Column, HoldsContent, IsColumn, SpellsColumn}
 use Rattle.pdb_column.specs.Maps.{ColumnMap}
@@ -18,6 +19,7 @@ pub record HoldsColumn (cells : Content) (column base : ℕ) (content : ColumnMa
   pub base_is : picture.base ≡ base
   pub holds : HoldsContent picture content
 
--- the same of both columns
+-- the same of both columns, of which the second has each key once
 pub record HoldsColumns (cells : Content) (bases : ℕ → ℕ) (contents : ℕ → ColumnMap) : Type 0 where
   pub each : (column : ℕ) → column ≤ 1 → HoldsColumn cells column (bases column) (contents column)
+  pub single : (key : List ℕ) (h : Counted) → contents 1 key ≡ Some h → h.count ≡ 1
