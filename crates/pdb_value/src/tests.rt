@@ -124,7 +124,7 @@ fn set_slot(cells: &mut MapCells, slot: u8, front: [u8; 12]) -> Result<(), OutOf
 fn damaged_cells_are_named(rt: HostRuntime) -> Result<(), Fail> {
     let damaged = |cell| Err(ValueFault::Damaged { file: 18, cell });
     for (slot, want) in [
-        // another kind; no count; a length that the slot doesn't hold; a byte behind the value
+        // another kind; no count; a length that the slot doesn't hold; a second byte
         ([9, 0, 0, 0, 1, 0, 0, 0, 0, 0, 0, 0], damaged(1)),
         ([1, 0, 0, 0, 0, 0, 0, 0, 0, 0, 0, 0], damaged(1)),
         ([1, 0, 21, 0, 1, 0, 0, 0, 0, 0, 0, 0], damaged(1)),
@@ -137,6 +137,112 @@ fn damaged_cells_are_named(rt: HostRuntime) -> Result<(), Fail> {
         assert_eq!(rt; count(rt.alloc(), &mut cells, 0, at(0, 1), &[0; 32]), want);
     }
     Ok(())
+}
+
+#[test]
+fn head_cells_keep_their_rules(rt: HostRuntime) -> Result<(), Fail> {
+    let damaged = Some(ValueFault::Damaged { file: 9, cell: 1 });
+    for (front, place, want) in [
+        ([1, 0, 0, 0], 0, None),
+        ([2, 0, 0, 0], 0, damaged),
+        // the base; fewer bits than the base; as many more as there may be, and one beyond
+        ([1, 16, 16, 0], 0, None),
+        ([1, 17, 17, 0], 0, damaged),
+        ([1, 3, 2, 0], 0, damaged),
+        ([1, 2, 16, 0], 0, None),
+        ([1, 2, 17, 0], 0, damaged),
+        // growing with a bit more than the base, and without
+        ([1, 0, 1, 1], 0, None),
+        ([1, 0, 0, 1], 0, damaged),
+        ([1, 0, 1, 2], 0, damaged),
+        // the last tier's first free slot above its end, its end alone, and a byte after it
+        ([1, 0, 0, 0], 124, damaged),
+        ([1, 0, 0, 0], 128, None),
+        ([1, 0, 0, 0], 132, damaged),
+    ] {
+        let mut cell = [0; 256];
+        cell[place] = 1;
+        cell[..4].copy_from_slice(&front);
+        let mut cells = MapCells::new(rt.alloc());
+        let name = CellName {
+            file: HEAD_FILE,
+            index: 1,
+        };
+        cells.set(name, &cell)?;
+        assert_eq!(rt; read_head(&mut cells, 1).err(), want);
+    }
+    Ok(())
+}
+
+// sets a byte of a cell of the tier of values in parts
+fn set_byte(d: &mut Draft<'_, MapCells>, slot: u8, place: u16, byte: u8) -> Result<(), ValueFault> {
+    let name = CellName {
+        file: 33,
+        index: u64::from(slot),
+    };
+    let mut cell = [0; 4096];
+    d.read(name, &mut cell)?;
+    if usize::from(place) < cell.len() {
+        cell[usize::from(place)] = byte;
+    }
+    d.put(name, &cell)?;
+    Ok(())
+}
+
+#[test]
+fn damaged_parts_are_named(rt: HostRuntime) -> Result<(), Fail> {
+    let bytes = some_bytes(rt.alloc(), 32725)?;
+    for (slot, place, byte, named) in [
+        // the head: its kind, its second byte, how many bytes are here, its count, a whole length that is too short for
+        // this tier and one that is too long, its next slot none and above the end
+        (1, 0, 3, true),
+        (1, 1, 1, true),
+        (1, 2, 205, true),
+        (1, 4, 0, true),
+        (1, 44, 212, true),
+        (1, 46, 128, true),
+        (1, 48, 0, true),
+        (1, 48, 10, true),
+        // a part: its kind, its second byte, one that isn't full, the last one too early, its next slot above the end
+        (2, 0, 2, true),
+        (2, 1, 1, true),
+        (2, 2, 247, true),
+        (2, 4, 0, true),
+        (2, 4, 10, true),
+        // the last part: a byte fewer, a next slot, a byte after its own
+        (9, 2, 64, true),
+        (9, 4, 2, true),
+        (9, 4095, 1, true),
+        // a byte of the value's own
+        (2, 100, 9, false),
+    ] {
+        let mut cells = cells_with(rt.alloc(), 0, [0; 4])?;
+        let mut draft = Draft::new(rt.alloc(), &mut cells);
+        let placed = place_and_set(rt.alloc(), &mut draft, &bytes, (slot, place, byte));
+        let mut out = Vec::new(rt.alloc());
+        let read = read_into(rt.alloc(), &mut draft, 0, at(15, 1), &[1; 32], &mut out);
+        draft.finish();
+        let damaged = ValueFault::Damaged {
+            file: 33,
+            cell: u64::from(slot),
+        };
+        assert_eq!(rt; placed, Ok(()));
+        assert_eq!(rt; read, if named { Err(damaged) } else { Ok(true) });
+    }
+    Ok(())
+}
+
+// places a value and sets a byte of one of its cells
+fn place_and_set(
+    alloc: Global,
+    d: &mut Draft<'_, MapCells>,
+    bytes: &[u8],
+    change: (u8, u16, u8),
+) -> Result<(), ValueFault>
+    requires { length bytes.now ≤ 8388608 }
+{
+    place(alloc, d, 0, &[1; 32], 1, bytes)?;
+    set_byte(d, change.0, change.1, change.2)
 }
 
 #[test]
