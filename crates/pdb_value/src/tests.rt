@@ -35,7 +35,7 @@ fn set_head(cells: &mut MapCells, column: u8, cell: &[u8; 256]) -> Result<(), Ou
 }
 
 // why a column's head cell isn't read
-fn head_of(cells: &mut MapCells, column: u8) -> Option<ValueFault> {
+fn head_of<C: Cells>(cells: &mut C, column: u8) -> Option<ValueFault> {
     read_head(cells, column).err()
 }
 
@@ -44,9 +44,9 @@ fn at(tier: u8, slot: u32) -> Address {
 }
 
 // The calls on column 0, each by itself: what their clauses say isn't needed here.
-fn placed(
+fn placed<C: Cells>(
     alloc: Global,
-    d: &mut Draft<'_, MapCells>,
+    d: &mut Draft<'_, C>,
     key: u8,
     count: u64,
     bytes: &[u8],
@@ -57,23 +57,23 @@ fn placed(
     place(alloc, d, 0, &[key; 32], count, bytes)
 }
 
-fn added(alloc: Global, d: &mut Draft<'_, MapCells>, at: Address) -> Result<u64, ValueFault> {
+fn added<C: Cells>(alloc: Global, d: &mut Draft<'_, C>, at: Address) -> Result<u64, ValueFault> {
     if at.tier > 15 {
         return Err(ValueFault::Disk);
     }
     add_ref(alloc, d, 0, at)
 }
 
-fn dropped(alloc: Global, d: &mut Draft<'_, MapCells>, at: Address) -> Result<u64, ValueFault> {
+fn dropped<C: Cells>(alloc: Global, d: &mut Draft<'_, C>, at: Address) -> Result<u64, ValueFault> {
     if at.tier > 15 {
         return Err(ValueFault::Disk);
     }
     drop_ref(alloc, d, 0, at)
 }
 
-fn replaced(
+fn replaced<C: Cells>(
     alloc: Global,
-    d: &mut Draft<'_, MapCells>,
+    d: &mut Draft<'_, C>,
     at: Address,
     bytes: &[u8],
 ) -> Result<bool, ValueFault> {
@@ -83,9 +83,9 @@ fn replaced(
     replace(alloc, d, 0, at, bytes)
 }
 
-fn read(
+fn read<C: Cells>(
     alloc: Global,
-    d: &mut Draft<'_, MapCells>,
+    d: &mut Draft<'_, C>,
     at: Address,
     key: u8,
     out: &mut Vec<u8>,
@@ -96,7 +96,7 @@ fn read(
     read_into(alloc, d, 0, at, &[key; 32], out)
 }
 
-fn counted(alloc: Global, c: &mut MapCells, at: Address) -> Result<Option<u64>, ValueFault> {
+fn counted<C: Cells>(alloc: Global, c: &mut C, at: Address) -> Result<Option<u64>, ValueFault> {
     if at.tier > 15 {
         return Err(ValueFault::Disk);
     }
@@ -104,9 +104,9 @@ fn counted(alloc: Global, c: &mut MapCells, at: Address) -> Result<Option<u64>, 
 }
 
 // reads a value, and its count
-fn read_back(
+fn read_back<C: Cells>(
     alloc: Global,
-    d: &mut Draft<'_, MapCells>,
+    d: &mut Draft<'_, C>,
     at: Address,
     key: u8,
     out: &mut Vec<u8>,
@@ -235,7 +235,7 @@ fn head_cells_keep_their_rules(rt: HostRuntime) -> Result<(), Fail> {
 }
 
 // sets a byte of a cell of the tier of values in parts
-fn set_byte(d: &mut Draft<'_, MapCells>, slot: u8, place: u16, byte: u8) -> Result<(), ValueFault> {
+fn set_byte<C: Cells>(d: &mut Draft<'_, C>, slot: u8, place: u16, byte: u8) -> Result<(), ValueFault> {
     let name = CellName {
         file: 33,
         index: u64::from(slot),
@@ -293,9 +293,9 @@ fn damaged_parts_are_named(rt: HostRuntime) -> Result<(), Fail> {
 }
 
 // places a value and sets a byte of one of its cells
-fn place_and_set(
+fn place_and_set<C: Cells>(
     alloc: Global,
-    d: &mut Draft<'_, MapCells>,
+    d: &mut Draft<'_, C>,
     bytes: &[u8],
     change: (u8, u16, u8),
 ) -> Result<(), ValueFault> {
