@@ -235,7 +235,12 @@ fn head_cells_keep_their_rules(rt: HostRuntime) -> Result<(), Fail> {
 }
 
 // sets a byte of a cell of the tier of values in parts
-fn set_byte<C: Cells>(d: &mut Draft<'_, C>, slot: u8, place: u16, byte: u8) -> Result<(), ValueFault> {
+fn set_byte<C: Cells>(
+    d: &mut Draft<'_, C>,
+    slot: u8,
+    place: u16,
+    byte: u8,
+) -> Result<(), ValueFault> {
     let name = CellName {
         file: 33,
         index: u64::from(slot),
