@@ -4,8 +4,8 @@ ghost use Rattle.pdb_cells.specs.Sizes.{column_size_of, size_of};
 /// The file of the head cells, of which a column has one, at its own number.
 pub const HEAD_FILE: u16 = 9;
 
-// the sizes of the slots of each tier, in bytes
-const SLOT_SIZES: [usize; 16] = [
+/// The sizes of the slots of tiers 0 to 15, in bytes.
+pub const SLOT_SIZES: [usize; 16] = [
     64, 96, 128, 160, 192, 256, 320, 512, 768, 1024, 2048, 4096, 8192, 16384, 32768, 4096,
 ];
 

@@ -25,7 +25,7 @@ mod put_set;
 mod puts;
 
 pub use cell_bytes::CellBytes;
-pub use cell_name::{CellName, HEAD_FILE, size};
+pub use cell_name::{CellName, HEAD_FILE, SLOT_SIZES, size};
 pub use cells::{CellFault, Cells};
 pub use draft::{Draft, Over};
 pub use laws::{a_put_replaces_the_earlier_one, cells_have_their_sizes, puts_are_laid_in_order};

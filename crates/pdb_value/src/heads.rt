@@ -11,11 +11,13 @@ use crate::fault::ValueFault;
 use crate::reading::is_zeros;
 use pdb_cells::{CellName, Cells, HEAD_FILE};
 
-/// A tier's first free slot, 0 for none, and its end.
-#[derive(Clone, Copy)]
-pub(crate) struct TierEnds {
-    pub(crate) free: u32,
-    pub(crate) end: u32,
+/// What a head cell says of a tier.
+#[derive(Clone, Copy, Debug, PartialEq, Eq)]
+pub struct TierEnds {
+    /// The first free slot, 0 for none.
+    pub free: u32,
+    /// The end: the highest slot that was ever used, 0 for none.
+    pub end: u32,
 }
 
 // what a head cell says of its column's indexes
@@ -48,8 +50,8 @@ fn read_ends(bytes: &[u8]) -> TierEnds
     }
 }
 
-/// The ends of a tier that a head cell says.
-pub(crate) fn ends_of(head: &[u8], tier: u8) -> TierEnds
+/// What a head cell, of 256 bytes, says of a tier, which is at most 15.
+pub fn ends_of(head: &[u8], tier: u8) -> TierEnds
     requires sized { length head.now ≡ 256 }
     requires tier { tier ≤ 15 }
     ensures { ends_at tier head.now ≡ ends_bytes (record { free = result.free; end = result.end }) }
@@ -132,8 +134,9 @@ fn is_head(cell: &[u8]) -> bool
     is_zeros(&cell[132..])
 }
 
-/// A column's head cell, which keeps the rules.
-pub(crate) fn read_head<C: Cells>(c: &mut C, column: u8) -> Result<[u8; 256], ValueFault>
+/// A column's head cell, which keeps the rules. `Damaged` names the head cell where it breaks them, and `Disk` comes only
+/// where the count of faults of the cells rises.
+pub fn read_head<C: Cells>(c: &mut C, column: u8) -> Result<[u8; 256], ValueFault>
     ensures keeps { C.same c.old c.new }
     ensures counted { CountsFault (disk_fails result) (C.fault_count c.old) (C.fault_count c.new) }
     ensures reads { C.read_count c.new ≡ C.read_count c.old }

@@ -3,13 +3,10 @@ ghost use Rattle.pdb_cells.specs.Sizes.{size_of};
 ghost use Rattle.pdb_model.specs.Files.{table_file};
 ghost use Rattle.pdb_model.specs.Tiers.{before_value, slot_size, tier_of};
 
+use pdb_cells::SLOT_SIZES;
+
 /// The tier of values in parts.
 pub(crate) const PARTS_TIER: u8 = 15;
-
-// the sizes of the slots of each tier, in bytes
-const SLOT_SIZES: [usize; 16] = [
-    64, 96, 128, 160, 192, 256, 320, 512, 768, 1024, 2048, 4096, 8192, 16384, 32768, 4096,
-];
 
 /// The size of a tier's slots, in bytes.
 pub(crate) fn slot_len(tier: u8) -> usize

@@ -1,0 +1,5 @@
+pub mod Maps
+pub mod Holding
+pub mod Damages
+pub mod Answers
+pub mod inner

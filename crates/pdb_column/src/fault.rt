@@ -1,0 +1,69 @@
+ghost use Rattle.std.specs.Prelude.{◌≡◌};
+ghost use Rattle.pdb_column.specs.declared.fault.ColumnFault.TheVariants as column;
+
+use pdb_cells::OutOfMemory as NoMemory;
+use thiserror::Error;
+
+/// Why a look-up gave no answer.
+#[derive(Clone, Copy, Debug, PartialEq, Eq, Error)]
+pub enum ColumnFault {
+    /// There wasn't memory enough.
+    #[error("out of memory")]
+    OutOfMemory,
+    /// The disk failed.
+    #[error("the disk failed")]
+    Disk,
+    /// A head cell, a chunk or a slot breaks the rules of its format.
+    #[error("cell {cell} of file {file} is damaged")]
+    Damaged {
+        /// The number of the cell's file.
+        file: u16,
+        /// The cell's index in its file.
+        cell: u64,
+    },
+}
+
+/// Why operations couldn't be planned.
+#[derive(Clone, Copy, Debug, PartialEq, Eq, Error)]
+pub enum PlanFault {
+    /// There wasn't memory enough.
+    #[error("out of memory")]
+    OutOfMemory,
+    /// The disk failed.
+    #[error("the disk failed")]
+    Disk,
+    /// A head cell, a chunk or a slot breaks the rules of its format.
+    #[error("cell {cell} of file {file} is damaged")]
+    Damaged {
+        /// The number of the cell's file.
+        file: u16,
+        /// The cell's index in its file.
+        cell: u64,
+    },
+    /// An entry is needed in a chunk that has no empty place.
+    #[error("chunk {chunk} of column {column} is full")]
+    ChunkFull {
+        /// The column, 0 or 1.
+        column: u8,
+        /// The bits of its index.
+        bits: u8,
+        /// The chunk's number.
+        chunk: u64,
+    },
+    /// A slot is needed of a tier that has no free one and whose end is the last one.
+    #[error("tier {tier} of column {column} is full")]
+    TierFull {
+        /// The column, 0 or 1.
+        column: u8,
+        /// The tier, 0 to 15.
+        tier: u8,
+    },
+}
+
+impl From<NoMemory> for ColumnFault {
+    ghost from_gives = { λ _ e. e ≡ column.OutOfMemory };
+
+    fn from(_fault: NoMemory) -> ColumnFault {
+        ColumnFault::OutOfMemory
+    }
+}
