@@ -1,7 +1,7 @@
 ghost use Rattle.std.specs.Prelude.{◌≡◌};
-ghost use Rattle.pdb_column.specs.declared.fault.ColumnFault.TheVariants as column;
+ghost use Rattle.pdb_column.specs.inner.Faults.{as_look_up};
 
-use pdb_cells::OutOfMemory as NoMemory;
+use pdb_value::ValueFault;
 use thiserror::Error;
 
 /// Why a look-up gave no answer.
@@ -60,10 +60,15 @@ pub enum PlanFault {
     },
 }
 
-impl From<NoMemory> for ColumnFault {
-    ghost from_gives = { λ _ e. e ≡ column.OutOfMemory };
+impl From<ValueFault> for ColumnFault {
+    ghost from_gives = { λ fault e. e ≡ as_look_up fault };
 
-    fn from(_fault: NoMemory) -> ColumnFault {
-        ColumnFault::OutOfMemory
+    fn from(fault: ValueFault) -> ColumnFault {
+        match fault {
+            // a look-up takes no slot, so that no tier is full for it
+            ValueFault::OutOfMemory | ValueFault::TierFull { tier: _ } => ColumnFault::OutOfMemory,
+            ValueFault::Disk => ColumnFault::Disk,
+            ValueFault::Damaged { file, cell } => ColumnFault::Damaged { file, cell },
+        }
     }
 }

@@ -2,7 +2,10 @@
 #![tactic(auto)]
 
 mod fault;
+mod key_chunk;
 mod laws;
+mod look_up;
 
 pub use fault::{ColumnFault, PlanFault};
 pub use laws::plain_keys_stand_as_their_hashes;
+pub use look_up::get;

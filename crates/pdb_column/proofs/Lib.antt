@@ -1,0 +1,2 @@
+pub mod KeyChunks
+pub mod Read
