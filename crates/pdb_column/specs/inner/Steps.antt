@@ -26,7 +26,7 @@ slot_for c len = next_slot (c.tables (tier_of len)).free (c.tables (tier_of len)
 -- a value is placed, and its entry put at a place of its key's chunk
 abbrev pub inserted : Column → List ℕ → ℕ → List ℕ → ℕ → Column
 inserted c key count value place =
-    let tier = tier_of (length value); n = chunk_number c.bits key in
+    let tier = tier_of (length value) in let n = chunk_number c.bits key in
     with_chunk (with_table c tier (placed (c.tables tier) key count value)) n
         (slice_set (c.newest n) place (entry_of c.base key tier (slot_for c (length value))))
 
