@@ -4,3 +4,6 @@ pub mod Freed
 pub mod Places
 pub mod Placed
 pub mod Stepped
+pub mod Finding
+pub mod Counting
+pub mod Overwriting
