@@ -1,8 +1,10 @@
 -- What the entries of a key's chunk say of the key.
-use Rattle.std.proofs.Common.{◌≡◌, ◌≢◌, ◌+◌, ◌<◌, ◌^◌, ℕ, List, Option, Some, None, length, refl, sym, ap, subst, ◌∙◌, arith, inl, inr}
+use Rattle.std.proofs.Common.{◌≡◌, ◌≢◌, ◌+◌, ◌-◌, ◌/◌, ◌<◌, ◌^◌, ℕ, List, Option, Some, None, length, refl, sym, ap, subst, ◌∙◌, arith, inl, inr}
 use Rattle.std.specs.Prelude.{slice_get}
+use Rattle.std.proofs.Math.Nat.{mod-lt}
+use Rattle.std.proofs.lemmas.Nat.{pow_pos}
 use Rattle.sdb_base.specs.Content.{Counted}
-use Rattle.pdb_model.specs.Chunks.{CarriesKey, chunk_number, entry_slot, entry_tier}
+use Rattle.pdb_model.specs.Chunks.{CarriesKey, chunk_number, front_of, entry_slot, entry_tier}
 use Rattle.pdb_model.specs.Columns.{Column, HasEntry, HoldsContent, IsColumn, Place, held_by}
 use Rattle.pdb_model.specs.Tables.{Held, held}
 use Rattle.pdb_column.specs.Holding.{IsFixed}
@@ -20,7 +22,7 @@ entry_stands c p e fixed has = elim has.there [ inl h ↦ h.1 | inr h ↦ let z 
 
 -- the chunk of a key is one of the index
 pub chunk_within : (bits : ℕ) (key : List ℕ) → chunk_number bits key < 2 ^ bits
-chunk_within bits key = ?
+chunk_within bits key = mod-lt (front_of key / 2 ^ (64 - (0 + bits))) (pow_pos bits)
 
 -- each entry names a slot that holds a value of the entry's chunk, whose bits it carries
 pub record IsValueOf (c : Column) (p : Place) (e : ℕ) : Type 0 where

@@ -7,3 +7,6 @@ pub mod Stepped
 pub mod Finding
 pub mod Counting
 pub mod Overwriting
+pub mod Chunks
+pub mod Erasing
+pub mod Inserting
