@@ -10,3 +10,5 @@ pub mod Overwriting
 pub mod Chunks
 pub mod Erasing
 pub mod Inserting
+pub mod Pigeons
+pub mod Crowding
