@@ -1,5 +1,5 @@
 -- Numbers, slots, places and keys by whether they are equal.
-use Rattle.std.proofs.Common.{◌≡◌, ◌+◌, ◌<◌, ◌≤◌, ◌==◌, Bool, true, false, if◌then◌else◌, ℕ, zero, suc, List, [], ◌∷◌, Some, set, length, refl, sym, ap, subst, ◌∙◌, arith, inl, inr}
+use Rattle.std.proofs.Common.{◌≡◌, ◌==◌, Bool, true, false, if◌then◌else◌, ℕ, zero, suc, List, [], ◌∷◌, Some, set, refl, sym, ap, subst, ◌∙◌, inl, inr}
 use Rattle.std.specs.Prelude.{slice_get}
 use Rattle.std.specs.Str.{bytes_eq}
 use Rattle.std.proofs.lemmas.Bool.Decides.{eqb_tells}
@@ -23,6 +23,9 @@ there slot s y = same_or s s (λ b. (if b then y else slot s) ≡ y) (λ _. refl
 
 pub elsewhere : (slot : ℕ → Slot) (s : ℕ) (y : Slot) (i : ℕ) → (i ≡ s → ⊥) → with_slot slot s y i ≡ slot i
 elsewhere slot s y i ne = same_or i s (λ b. (if b then y else slot i) ≡ slot i) (λ e. absurd (ne e)) (λ _. refl)
+
+pub some_is : (a b : ℕ) → Some a ≡ Some b → a ≡ b
+some_is a b e = cc
 
 -- ---- an element of a list is another one
 

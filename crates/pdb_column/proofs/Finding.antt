@@ -13,7 +13,8 @@ use Rattle.pdb_column.proofs.Held.{one_held}
 use Rattle.pdb_column.proofs.Stepped.{entry_bits_are, entry_low}
 
 -- an entry of the newest index's chunk that isn't the empty one
-pub chunk_entry : (c : Column) (n place e : ℕ) → n < 2 ^ c.bits → slice_get (c.newest n) place ≡ Some e → e ≢ 0 → HasEntry c (record { bits = c.bits; chunk = n; place = place }) e
+pub chunk_entry : (c : Column) (n place e : ℕ) → n < 2 ^ c.bits → slice_get (c.newest n) place ≡ Some e → e ≢ 0
+    → HasEntry c (record { bits = c.bits; chunk = n; place = place }) e
 chunk_entry c n place e within at full = record { not_empty = full; within = within; there = inl (refl, at) }
 
 -- an entry of a fixed column stands in its newest index
@@ -35,12 +36,14 @@ pub entry_holds : (c : Column) (p : Place) (e : ℕ) → IsColumn c → HasEntry
 entry_holds c p e is has = let n = (is.named p e has).1 in record { value = n.0; held_is = n.1; chunk_is = n.2; carries = n.3 }
 
 -- what an entry's slot holds is held under its key
-pub entry_counted : (c : Column) (content : ColumnMap) (p : Place) (e : ℕ) (h : Held) → IsColumn c → HoldsContent c content → HasEntry c p e → held_by c e ≡ Some h
+pub entry_counted : (c : Column) (content : ColumnMap) (p : Place) (e : ℕ) (h : Held) → IsColumn c → HoldsContent c content
+    → HasEntry c p e → held_by c e ≡ Some h
     → content h.key ≡ Some (record { count = h.count; bytes = h.value })
 entry_counted c content p e h is holds has at = holds.no_other h.key (record { count = h.count; bytes = h.value }) (entry_tier e, entry_slot e, entry_low c p e is has, at)
 
 -- the same of a key that is compared
-pub key_counted : (c : Column) (content : ColumnMap) (p : Place) (e : ℕ) (h : Held) (key : List ℕ) → IsColumn c → HoldsContent c content → HasEntry c p e → held_by c e ≡ Some h → h.key ≡ key
+pub key_counted : (c : Column) (content : ColumnMap) (p : Place) (e : ℕ) (h : Held) (key : List ℕ) → IsColumn c
+    → HoldsContent c content → HasEntry c p e → held_by c e ≡ Some h → h.key ≡ key
     → content key ≡ Some (record { count = h.count; bytes = h.value })
 key_counted c content p e h key is holds has at same = ap content (sym same) ∙ entry_counted c content p e h is holds has at
 
@@ -55,7 +58,8 @@ pub record IsFoundAt (c : Column) (key : List ℕ) (h : Counted) : Type 0 where
   pub carries : CarriesKey c.base key entry
   pub held_is : held_by c entry ≡ Some (record { key = key; count = h.count; value = h.bytes })
 
-pub key_found : (c : Column) (content : ColumnMap) (key : List ℕ) (h : Counted) → IsColumn c → IsFixed c → HoldsContent c content → length key ≡ 32 → content key ≡ Some h → IsFoundAt c key h
+pub key_found : (c : Column) (content : ColumnMap) (key : List ℕ) (h : Counted) → IsColumn c → IsFixed c
+    → HoldsContent c content → length key ≡ 32 → content key ≡ Some h → IsFoundAt c key h
 key_found c content key h is fixed holds long at =
     let under = holds.there key h long at in
     let value : Held = record { key = key; count = h.count; value = h.bytes } in
@@ -79,7 +83,8 @@ key_found c content key h is fixed holds long at =
     }
 
 -- where no such entry names the key, nothing is held under it
-pub none_found : (c : Column) (content : ColumnMap) (key : List ℕ) → IsColumn c → IsFixed c → HoldsContent c content → length key ≡ 32
+pub none_found : (c : Column) (content : ColumnMap) (key : List ℕ) → IsColumn c → IsFixed c → HoldsContent c content
+    → length key ≡ 32
     → ((place e : ℕ) (h : Held) → slice_get (c.newest (chunk_number c.bits key)) place ≡ Some e → e ≢ 0 → CarriesKey c.base key e → held_by c e ≡ Some h → h.key ≡ key → ⊥)
     → content key ≡ None
 none_found c content key is fixed holds long none = by (content key) refl

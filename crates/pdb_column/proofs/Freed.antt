@@ -1,8 +1,8 @@
 -- What the slots of a table hold after a value is removed.
-use Rattle.std.proofs.Common.{◌≡◌, ◌⊎◌, ◌+◌, ◌<◌, ◌≤◌, ◌==◌, if◌then◌else◌, ℕ, zero, suc, List, [], ◌∷◌, Option, Some, None, refl, sym, ap, subst, ◌∙◌, arith, inl, inr}
+use Rattle.std.proofs.Common.{◌≡◌, if◌then◌else◌, ℕ, zero, suc, List, [], ◌∷◌, Some, None, refl, sym, ap, ◌∙◌, inl, inr}
 use Rattle.std.proofs.lemmas.Bool.Decides.{eqb_tells}
-use Rattle.std.specs.Prelude.{slice_get, slice_index}
-use Rattle.pdb_model.specs.Tables.{Slot, Whole, Parted, Part, Free, Loose, Outside, Table, Held, IsTable, IsSettled, bytes_of_part, freed, freed_all, held, parts_of, removed, with_slot}
+use Rattle.std.specs.Prelude.{slice_get}
+use Rattle.pdb_model.specs.Tables.{Slot, Whole, Parted, Part, Free, Loose, Outside, Table, IsTable, IsSettled, freed, freed_all, held, parts_of, removed}
 use Rattle.pdb_column.proofs.Cases.{same_or}
 use Rattle.pdb_column.proofs.Held.{Changes}
 
@@ -15,7 +15,8 @@ free_stays : (list : List ℕ) (t : Table) (i : ℕ) → t.slot i ≡ Free → (
 free_stays [] t i e = e
 free_stays (s ∷ rest) t i e = free_stays rest (freed t s) i (same_or i s (λ b. (if b then Free else t.slot i) ≡ Free) (λ _. refl) (λ _. e))
 
-none_of : (s i : ℕ) (rest : List ℕ) (j : ℕ) → (i ≡ s → ⊥) → ((k : ℕ) → slice_get rest k ≡ Some i → ⊥) → slice_get (s ∷ rest) j ≡ Some i → ⊥
+none_of : (s i : ℕ) (rest : List ℕ) (j : ℕ) → (i ≡ s → ⊥) → ((k : ℕ) → slice_get rest k ≡ Some i → ⊥)
+    → slice_get (s ∷ rest) j ≡ Some i → ⊥
 none_of s i rest zero ne none e = ne (let w : s ≡ i = cc in sym w)
 none_of s i rest (suc j) ne none e = none j e
 
@@ -31,7 +32,8 @@ freed_or_kept (s ∷ rest) t i =
     ]
 
 -- a further part of what a slot holds is no value's first slot
-part_holds_none : (t : Table) (s : ℕ) (x : Slot) (j i : ℕ) → IsTable t → t.slot s ≡ x → slice_get (parts_of x) j ≡ Some i → held (t.slot i) ≡ None
+part_holds_none : (t : Table) (s : ℕ) (x : Slot) (j i : ℕ) → IsTable t → t.slot s ≡ x → slice_get (parts_of x) j ≡ Some i
+    → held (t.slot i) ≡ None
 part_holds_none t s (Whole key count value) j i is e got = absurd (cc)
 part_holds_none t s (Parted key count value parts) j i is e got = ap held (is.parts s key count value parts e j i got)
 part_holds_none t s (Part head place bytes next) j i is e got = absurd (cc)
@@ -39,7 +41,8 @@ part_holds_none t s Free j i is e got = absurd (cc)
 part_holds_none t s Loose j i is e got = absurd (cc)
 part_holds_none t s Outside j i is e got = absurd (cc)
 
-listed_holds_none : (t : Table) (s j i : ℕ) → IsTable t → (i ≡ s → ⊥) → slice_get (s ∷ parts_of (t.slot s)) j ≡ Some i → held (t.slot i) ≡ None
+listed_holds_none : (t : Table) (s j i : ℕ) → IsTable t → (i ≡ s → ⊥) → slice_get (s ∷ parts_of (t.slot s)) j ≡ Some i
+    → held (t.slot i) ≡ None
 listed_holds_none t s zero i is ne got = absurd (ne (let w : s ≡ i = cc in sym w))
 listed_holds_none t s (suc j) i is ne got = part_holds_none t s (t.slot s) j i is refl got
 

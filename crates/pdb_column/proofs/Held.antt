@@ -1,8 +1,8 @@
 -- What the slots of a table hold after one of them changes.
-use Rattle.std.proofs.Common.{◌≡◌, ◌⊎◌, ◌+◌, ◌<◌, ◌≤◌, ◌==◌, if◌then◌else◌, ℕ, List, [], Option, Some, None, refl, sym, ap, subst, ◌∙◌, arith, inl, inr}
+use Rattle.std.proofs.Common.{◌≡◌, ◌⊎◌, ◌≤◌, if◌then◌else◌, ℕ, List, Option, Some, refl, sym, ap, ◌∙◌, arith, inl, inr}
 use Rattle.std.proofs.lemmas.Bool.Decides.{eqb_tells}
 use Rattle.std.proofs.lemmas.Bool.{cases_lt}
-use Rattle.pdb_model.specs.Tables.{Slot, Whole, Parted, Part, Free, Loose, Outside, Table, Held, IsTable, IsSettled, held, holding, recounted, with_count, with_slot}
+use Rattle.pdb_model.specs.Tables.{Slot, Whole, Parted, Part, Free, Loose, Outside, Table, Held, IsTable, IsSettled, held, holding, recounted, with_count}
 use Rattle.pdb_column.proofs.Cases.{elsewhere, same_or, there}
 
 -- The table of a tier changed at a value's first slot alone: what it holds now, and that all others hold what they held.
@@ -16,7 +16,8 @@ pub one_held : (g h : Held) → Some g ≡ Some h → g ≡ h
 one_held g h e = cc
 
 -- a slot that holds a value
-pub held_is : (x : Slot) (h : Held) → held x ≡ Some h → (x ≡ Whole h.key h.count h.value) ⊎ ((parts : List ℕ) × (x ≡ Parted h.key h.count h.value parts))
+pub held_is : (x : Slot) (h : Held) → held x ≡ Some h
+    → (x ≡ Whole h.key h.count h.value) ⊎ ((parts : List ℕ) × (x ≡ Parted h.key h.count h.value parts))
 held_is (Whole key count value) h e =
     let r : Held = record { key = key; count = count; value = value } in
     inl (ap (λ (h : Held). Whole h.key h.count h.value) (one_held r h e))
@@ -40,7 +41,8 @@ held_within t s h is e = (
 
 -- ---- another count
 
-held_counted : (x : Slot) (h : Held) (n : ℕ) → held x ≡ Some h → held (with_count x n) ≡ Some (record { key = h.key; count = n; value = h.value })
+held_counted : (x : Slot) (h : Held) (n : ℕ) → held x ≡ Some h
+    → held (with_count x n) ≡ Some (record { key = h.key; count = n; value = h.value })
 held_counted x h n e = elim (held_is x h e) [ inl w ↦ ap (λ x. held (with_count x n)) w | inr p ↦ ap (λ x. held (with_count x n)) p.1 ]
 
 settled_counted : (x : Slot) (n : ℕ) → with_count x n ≡ Loose → x ≡ Loose
@@ -51,7 +53,8 @@ settled_counted Free n e = cc
 settled_counted Loose n e = refl
 settled_counted Outside n e = cc
 
-pub recounted_changes : (t : Table) (s : ℕ) (h : Held) (n : ℕ) → IsTable (recounted t s n) → IsSettled t → held (t.slot s) ≡ Some h
+pub recounted_changes : (t : Table) (s : ℕ) (h : Held) (n : ℕ) → IsTable (recounted t s n) → IsSettled t
+    → held (t.slot s) ≡ Some h
     → Changes t (recounted t s n) s (Some (record { key = h.key; count = n; value = h.value }))
 recounted_changes t s h n is settled e = record {
   is = is;
@@ -62,10 +65,11 @@ recounted_changes t s h n is settled e = record {
 
 -- ---- a whole value
 
-whole_settled : (key : List ℕ) (count : ℕ) (value : List ℕ) → Whole key count value ≡ Loose → ⊥
+pub whole_settled : (key : List ℕ) (count : ℕ) (value : List ℕ) → Whole key count value ≡ Loose → ⊥
 whole_settled key count value e = cc
 
-pub holding_changes : (t : Table) (s : ℕ) (key : List ℕ) (count : ℕ) (value : List ℕ) → IsTable (holding t s key count value) → IsSettled t
+pub holding_changes : (t : Table) (s : ℕ) (key : List ℕ) (count : ℕ) (value : List ℕ) → IsTable (holding t s key count value)
+    → IsSettled t
     → Changes t (holding t s key count value) s (Some (record { key = key; count = count; value = value }))
 holding_changes t s key count value is settled = record {
   is = is;

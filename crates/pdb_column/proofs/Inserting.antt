@@ -1,5 +1,5 @@
 -- A value is placed under a key that has none.
-use Rattle.std.proofs.Common.{◌≡◌, ◌≢◌, ◌+◌, ◌<◌, ◌≤◌, ◌^◌, nat_le, true, false, if◌then◌else◌, ℕ, List, [], ◌∷◌, Option, Some, None, length, take, refl, sym, ap, subst, ◌∙◌, arith}
+use Rattle.std.proofs.Common.{◌≡◌, ◌≢◌, ◌+◌, ◌<◌, ◌≤◌, nat_le, true, false, if◌then◌else◌, ℕ, List, [], ◌∷◌, Option, Some, None, length, take, refl, sym, ap, subst, ◌∙◌, arith}
 use Rattle.std.specs.Prelude.{slice_get}
 use Rattle.pdb_cells.specs.Sizes.{slot_sizes}
 use Rattle.sdb_base.specs.Content.{Counted}
@@ -11,11 +11,14 @@ use Rattle.pdb_model.specs.Tiers.{before_value, tier_from, tier_of}
 use Rattle.pdb_column.specs.Holding.{IsFixed}
 use Rattle.pdb_column.specs.Maps.{ColumnMap}
 use Rattle.pdb_column.specs.inner.Steps.{inserted, slot_for, with_under}
+use Rattle.pdb_column.proofs.Cases.{some_is}
 use Rattle.pdb_column.proofs.Chunks.{Put, Stays, entry_kept, entry_or, entry_put, put_entry}
 use Rattle.pdb_column.proofs.Finding.{chunk_within, entry_holds, entry_stands}
 use Rattle.pdb_column.proofs.Held.{Changes, held_within, one_held}
-use Rattle.pdb_column.proofs.Placed.{next_holds_none, placed_changes}
-use Rattle.pdb_column.proofs.Stepped.{IsOfKey, Keeps, entry_bits_are, stepped, stepped_fixed, stepped_keeps}
+use Rattle.pdb_column.proofs.Placed.{placed_changes}
+use Rattle.pdb_column.proofs.Taken.{next_holds_none}
+use Rattle.pdb_column.proofs.Stepped.{Keeps, entry_bits_are, stepped_fixed, stepped_keeps}
+use Rattle.pdb_column.proofs.Valued.{IsOfKey, stepped}
 
 tier_from_low : (sizes : List ℕ) (tier len : ℕ) → tier_from tier sizes len ≤ tier + length sizes
 tier_from_low [] tier len = omega arith
@@ -34,9 +37,6 @@ none_is_some x h none some = let w : None ≡ Some h = sym none ∙ some in cc
 nothing_counted : (x : Option Counted) (h : Counted) → x ≡ None → x ≡ Some h → ⊥
 nothing_counted x h none some = let w : None ≡ Some h = sym none ∙ some in cc
 
-some_is : (a b : ℕ) → Some a ≡ Some b → b ≡ a
-some_is a b e = cc
-
 one_place : (p q : Place) → p.bits ≡ q.bits → p.chunk ≡ q.chunk → p.place ≡ q.place → p ≡ q
 one_place p q a b d = λ i. record { bits = a i; chunk = b i; place = d i }
 
@@ -47,7 +47,8 @@ record IsNew (c : Column) (key : List ℕ) (tier s entry : ℕ) : Type 0 where
   tier_is : entry_tier entry ≡ tier
   slot_is : entry_slot entry ≡ s
 
-new_entry : (c : Column) (key : List ℕ) (tier s : ℕ) (now : Table) (h : Held) → tier < 16 → Changes (c.tables tier) now s (Some h) → IsNew c key tier s (entry_of c.base key tier s)
+new_entry : (c : Column) (key : List ℕ) (tier s : ℕ) (now : Table) (h : Held) → tier < 16
+    → Changes (c.tables tier) now s (Some h) → IsNew c key tier s (entry_of c.base key tier s)
 new_entry c key tier s now h low ch =
     let within = held_within now s h ch.is ch.here in
     let narrow = ch.is.narrow in
@@ -56,8 +57,10 @@ new_entry c key tier s now h low ch =
     record { full = entry_is_full c.base tier s key within.0; carries = parts.0; tier_is = parts.1; slot_is = parts.2 }
 
 -- an entry that names the slot then is the new one
-only_new : (c : Column) (tier s n place entry : ℕ) (now : Table) (p : Place) (e : ℕ) → IsColumn c → IsFixed c → held ((c.tables tier).slot s) ≡ None → slice_get (c.newest n) place ≡ Some 0
-    → HasEntry (stepped c tier now (put_entry c n place entry)) p e → entry_tier e ≡ tier → entry_slot e ≡ s → (p.chunk ≡ n) × (p.place ≡ place) × (e ≡ entry)
+only_new : (c : Column) (tier s n place entry : ℕ) (now : Table) (p : Place) (e : ℕ) → IsColumn c → IsFixed c
+    → held ((c.tables tier).slot s) ≡ None → slice_get (c.newest n) place ≡ Some 0
+    → HasEntry (stepped c tier now (put_entry c n place entry)) p e → entry_tier e ≡ tier → entry_slot e ≡ s
+    → (p.chunk ≡ n) × (p.place ≡ place) × (e ≡ entry)
 only_new c tier s n place entry now p e is fixed none empty has a b =
     elim (entry_or c tier n place 0 entry now p e fixed empty has) [
       | Put x y same ↦ (x, y, same)
@@ -66,8 +69,10 @@ only_new c tier s n place entry now p e is fixed none empty has a b =
           absurd (none_is_some (held_by c e) v.value (ap (λ u. held ((c.tables u).slot (entry_slot e))) a ∙ (ap (λ i. held ((c.tables tier).slot i)) b ∙ none)) v.held_is)
     ]
 
-pub inserting : (c : Column) (content : ColumnMap) (key : List ℕ) (count : ℕ) (value : List ℕ) (place : ℕ) → IsColumn c → IsFixed c → HoldsContent c content → content key ≡ None
-    → IsTable (placed (c.tables (tier_of (length value))) key count value) → slice_get (c.newest (chunk_number c.bits key)) place ≡ Some 0
+pub inserting : (c : Column) (content : ColumnMap) (key : List ℕ) (count : ℕ) (value : List ℕ) (place : ℕ) → IsColumn c
+    → IsFixed c → HoldsContent c content → content key ≡ None
+    → IsTable (placed (c.tables (tier_of (length value))) key count value)
+    → slice_get (c.newest (chunk_number c.bits key)) place ≡ Some 0
     → Keeps (inserted c key count value place) (with_under content key (Some (record { count = count; bytes = value })))
 inserting c content key count value place is fixed is_held none table empty =
     let tier : ℕ = tier_of (length value) in
@@ -90,7 +95,7 @@ inserting c content key count value place is fixed is_held none table empty =
     } in
     stepped_keeps c content tier s now (Some h) key (put_entry c n place entry) (record { is = is; fixed = fixed; holds = is_held }) of (record {
       kept = λ p e has ne. entry_kept c tier n place entry now p e fixed has
-          (λ a b. has.not_empty (some_is 0 e (sym empty ∙ (ap (λ m. slice_get (c.newest m) place) (sym a) ∙ (ap (slice_get (c.newest p.chunk)) (sym b) ∙ entry_stands c p e fixed has)))));
+          (λ a b. has.not_empty (sym (some_is 0 e (sym empty ∙ (ap (λ m. slice_get (c.newest m) place) (sym a) ∙ (ap (slice_get (c.newest p.chunk)) (sym b) ∙ entry_stands c p e fixed has))))));
       old = λ p e has ne. elim (entry_or c tier n place 0 entry now p e fixed empty has) [
         | Put x y same ↦ absurd (ne (ap entry_tier same ∙ new.tier_is) (ap entry_slot same ∙ new.slot_is))
         | Stays other old ↦ old

@@ -1,13 +1,15 @@
 pub mod Cases
+pub mod Places
 pub mod Held
 pub mod Freed
-pub mod Places
+pub mod Taken
 pub mod Placed
+pub mod Valued
 pub mod Stepped
 pub mod Finding
+pub mod Chunks
 pub mod Counting
 pub mod Overwriting
-pub mod Chunks
 pub mod Erasing
 pub mod Inserting
 pub mod Pigeons

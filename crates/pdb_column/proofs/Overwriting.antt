@@ -1,6 +1,5 @@
 -- The whole value that an entry names is another one.
-use Rattle.std.proofs.Common.{◌≡◌, ◌<◌, ℕ, List, Some, length, refl}
-use Rattle.sdb_base.specs.Content.{Counted}
+use Rattle.std.proofs.Common.{◌≡◌, ℕ, List, Some, refl}
 use Rattle.pdb_model.specs.Chunks.{entry_slot, entry_tier}
 use Rattle.pdb_model.specs.Columns.{Column, HasEntry, HoldsContent, IsColumn, Place, held_by}
 use Rattle.pdb_model.specs.Tables.{Held, IsTable, holding}
@@ -11,7 +10,8 @@ use Rattle.pdb_column.proofs.Counting.{revalued}
 use Rattle.pdb_column.proofs.Held.{holding_changes}
 use Rattle.pdb_column.proofs.Stepped.{Keeps, entry_low}
 
-pub overwriting : (c : Column) (content : ColumnMap) (p : Place) (entry : ℕ) (h : Held) (value : List ℕ) → IsColumn c → IsFixed c → HoldsContent c content → HasEntry c p entry → held_by c entry ≡ Some h
+pub overwriting : (c : Column) (content : ColumnMap) (p : Place) (entry : ℕ) (h : Held) (value : List ℕ) → IsColumn c
+    → IsFixed c → HoldsContent c content → HasEntry c p entry → held_by c entry ≡ Some h
     → IsTable (holding (c.tables (entry_tier entry)) (entry_slot entry) h.key h.count value)
     → Keeps (overwritten c entry h.key h.count value) (with_under content h.key (Some (record { count = h.count; bytes = value })))
 overwriting c content p entry h value is fixed is_held has holds table =

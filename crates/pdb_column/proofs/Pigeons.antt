@@ -1,5 +1,5 @@
 -- Of more numbers than there are places, two stand at one place.
-use Rattle.std.proofs.Common.{◌≡◌, ◌⊎◌, ◌<◌, ◌≤◌, ℕ, zero, suc, refl, sym, subst, ◌∙◌, arith, inl, inr}
+use Rattle.std.proofs.Common.{◌≡◌, ◌⊎◌, ◌<◌, ◌≤◌, ℕ, zero, suc, refl, subst, arith, inl, inr}
 use Rattle.std.proofs.lemmas.Bool.Decides.{eqb_tells}
 
 -- where each of the first so many numbers stands at a place below a bound
@@ -11,7 +11,8 @@ pub record AreApart (n m : ℕ) (At : ℕ → ℕ → Type 0) : Type 0 where
 abbrev Moved : (ℕ → ℕ → Type 0) → ℕ → ℕ → ℕ → ℕ → Type 0
 Moved At m a i v = (At i v × (v ≡ m → ⊥)) ⊎ (At i m × (v ≡ a))
 
-moved_apart : (At : ℕ → ℕ → Type 0) (n m a i j v : ℕ) → At n a → AreApart (suc n) (suc m) At → i < n → j < n → Moved At m a i v → Moved At m a j v → i ≡ j
+moved_apart : (At : ℕ → ℕ → Type 0) (n m a i j v : ℕ) → At n a → AreApart (suc n) (suc m) At → i < n → j < n
+    → Moved At m a i v → Moved At m a j v → i ≡ j
 moved_apart At n m a i j v last are low other one two =
     elim one [
       | inl x ↦ elim two [

@@ -1,9 +1,11 @@
 -- Where a number stands on a list.
-use Rattle.std.proofs.Common.{◌≡◌, ◌+◌, ◌<◌, ◌≤◌, ◌==◌, cond, not, nat_lt, ℕ, zero, suc, List, [], ◌∷◌, Option, Some, None, length, ap, ◌∙◌, arith, inl, inr}
+use Rattle.std.proofs.Common.{◌≡◌, ◌+◌, ◌<◌, ◌≤◌, ◌==◌, cond, not, nat_lt, ℕ, zero, suc, List, [], ◌∷◌, Option, Some, None, length, set, sym, ap, ◌∙◌, arith, inl, inr}
 use Rattle.std.proofs.lemmas.Bool.{cases_lt}
 use Rattle.std.proofs.lemmas.Bool.Decides.{nat_tests}
 use Rattle.std.specs.List.{position, prefix_len}
 use Rattle.std.specs.Prelude.{slice_get}
+use Rattle.std.specs.Option.{option_map}
+use Rattle.pdb_model.specs.Chunks.{with_entry}
 use Rattle.pdb_column.proofs.Cases.{same_or}
 
 abbrev before : ℕ → List ℕ → ℕ
@@ -40,4 +42,18 @@ pub stands : (xs : List ℕ) (i : ℕ) → Stands xs i
 stands xs i = elim (cases_lt (before i xs) (length xs)) [
   | inl h ↦ At (before i xs) (lt_yes (before i xs) (length xs) (Some (before i xs)) None h) (found xs i h)
   | inr h ↦ Nowhere (lt_no (before i xs) (length xs) (Some (before i xs)) None h) (not_found xs i h)
+]
+
+same_list : (xs ys : List ℕ) → Some xs ≡ Some ys → xs ≡ ys
+same_list xs ys e = cc
+
+no_list : (xs : List ℕ) → Some xs ≡ None → ⊥
+no_list xs e = cc
+
+-- an entry that is put into a chunk goes to an empty place
+pub empty_is_set : (entries after : List ℕ) (entry : ℕ) → with_entry entries entry ≡ Some after
+    → (place : ℕ) × (slice_get entries place ≡ Some 0) × (after ≡ set entries place entry)
+empty_is_set entries after entry e = elim (stands entries 0) [
+  | At j p got ↦ (j, got, same_list after (set entries j entry) (sym e ∙ ap (option_map (λ place. set entries place entry)) p))
+  | Nowhere p none ↦ absurd (no_list after (sym e ∙ ap (option_map (λ place. set entries place entry)) p))
 ]

@@ -1,97 +1,15 @@
 -- A column after a step: the table of one tier changed at one value's first slot, and the newest index with it.
-use Rattle.std.proofs.Common.{◌≡◌, ◌≢◌, ◌⊎◌, ◌+◌, ◌*◌, ◌^◌, ◌<◌, ◌≤◌, ◌==◌, if◌then◌else◌, Bool, true, false, ℕ, List, [], Option, Some, None, length, refl, sym, ap, subst, ◌∙◌, arith, inl, inr}
+use Rattle.std.proofs.Common.{◌≡◌, ◌<◌, ◌==◌, if◌then◌else◌, ℕ, List, Option, Some, sym, ap, subst, ◌∙◌, arith, inl, inr}
 use Rattle.std.proofs.lemmas.Bool.Decides.{eqb_tells}
-use Rattle.std.specs.Str.{bytes_eq}
-use Rattle.sdb_base.specs.Content.{Counted}
 use Rattle.pdb_model.specs.Chunks.{CarriesKey, IsIndexEntry, chunk_number, entry_slot, entry_tier}
-use Rattle.pdb_model.specs.Columns.{Column, HasEntry, HoldsContent, IsColumn, IsUnder, Place, end_of, held_by}
-use Rattle.pdb_model.specs.Tables.{Held, IsSettled, IsTable, Table, held}
+use Rattle.pdb_model.specs.Columns.{Column, HasEntry, HoldsContent, IsColumn, Place, end_of, held_by}
+use Rattle.pdb_model.specs.Tables.{Held, IsSettled, IsTable, Table}
 use Rattle.pdb_column.specs.Holding.{IsFixed}
 use Rattle.pdb_column.specs.Maps.{ColumnMap}
-use Rattle.pdb_column.specs.inner.Steps.{with_table, with_under}
-use Rattle.pdb_column.proofs.Cases.{same_key_or, same_or}
+use Rattle.pdb_column.specs.inner.Steps.{with_under}
+use Rattle.pdb_column.proofs.Cases.{same_or}
+use Rattle.pdb_column.proofs.Valued.{IsOfKey, New, Old, counted_of, holds_here, holds_other, stepped, stepped_holds, value}
 use Rattle.pdb_column.proofs.Held.{Changes, held_within, one_held}
-
--- the column with this table of a tier, and these entries of the newest index
-abbrev pub stepped : Column → ℕ → Table → (ℕ → List ℕ) → Column
-stepped c tier now newest = record (with_table c tier now) { newest = newest }
-
--- what a slot of the column holds then
-pub data Holds (c : Column) (tier s : ℕ) (what : Option Held) (u i : ℕ) (x : Option Held) : Type 0 where
-  Here : u ≡ tier → i ≡ s → x ≡ what → Holds c tier s what u i x
-  Other : (u ≡ tier → i ≡ s → ⊥) → x ≡ held ((c.tables u).slot i) → Holds c tier s what u i x
-
-pub holds : (c : Column) (tier s : ℕ) (now : Table) (what : Option Held) (u i : ℕ) → Changes (c.tables tier) now s what
-    → Holds c tier s what u i (held ((if u == tier then now else c.tables u).slot i))
-holds c tier s now what u i ch =
-    same_or u tier (λ b. Holds c tier s what u i (held ((if b then now else c.tables u).slot i)))
-    (λ e. elim (eqb_tells i s) [
-      | inl h ↦ Here e h.1 (ap (λ k. held (now.slot k)) h.1 ∙ ch.here)
-      | inr h ↦ Other (λ _ q. h.1 q) (ch.others i h.1 ∙ ap (λ k. held ((c.tables k).slot i)) (sym e))
-    ])
-    (λ ne. Other (λ q _. ne q) refl)
-
--- the slot itself
-pub holds_here : (c : Column) (tier s : ℕ) (now : Table) (what : Option Held) (u i : ℕ) → Changes (c.tables tier) now s what → u ≡ tier → i ≡ s
-    → held ((if u == tier then now else c.tables u).slot i) ≡ what
-holds_here c tier s now what u i ch e q = elim (holds c tier s now what u i ch) [ Here a b x ↦ x | Other ne x ↦ absurd (ne e q) ]
-
--- another one
-pub holds_other : (c : Column) (tier s : ℕ) (now : Table) (what : Option Held) (u i : ℕ) → Changes (c.tables tier) now s what → (u ≡ tier → i ≡ s → ⊥)
-    → held ((if u == tier then now else c.tables u).slot i) ≡ held ((c.tables u).slot i)
-holds_other c tier s now what u i ch ne = elim (holds c tier s now what u i ch) [ Here a b x ↦ absurd (ne a b) | Other ne x ↦ x ]
-
--- what is held under a key, of what a slot holds
-abbrev pub counted_of : Option Held → Option Counted
-counted_of None = None
-counted_of (Some h) = Some (record { count = h.count; bytes = h.value })
-
--- ---- what a step says of the values
-
--- The slot held nothing or this key's value, holds now nothing or this key's value, and no other slot holds this key.
-pub record IsOfKey (c : Column) (tier s : ℕ) (now : Table) (what : Option Held) (key : List ℕ) : Type 0 where
-  pub low : tier < 16
-  pub change : Changes (c.tables tier) now s what
-  pub before : (h : Held) → held ((c.tables tier).slot s) ≡ Some h → h.key ≡ key
-  pub after : (h : Held) → what ≡ Some h → h.key ≡ key
-  pub alone : (u i : ℕ) (h : Held) → u < 16 → held ((c.tables u).slot i) ≡ Some h → h.key ≡ key → (u ≡ tier) × (i ≡ s)
-
--- the values of the column then, by whether they are the one that changed
-pub data Value (c : Column) (tier s : ℕ) (what : Option Held) (u i : ℕ) (h : Held) : Type 0 where
-  New : u ≡ tier → i ≡ s → what ≡ Some h → Value c tier s what u i h
-  Old : (u ≡ tier → i ≡ s → ⊥) → held ((c.tables u).slot i) ≡ Some h → Value c tier s what u i h
-
-pub value : (c : Column) (tier s : ℕ) (now : Table) (what : Option Held) (u i : ℕ) (h : Held) → Changes (c.tables tier) now s what
-    → held ((if u == tier then now else c.tables u).slot i) ≡ Some h → Value c tier s what u i h
-value c tier s now what u i h ch is = elim (holds c tier s now what u i ch) [ Here e q x ↦ New e q (sym x ∙ is) | Other ne x ↦ Old ne (sym x ∙ is) ]
-
-under_then : (what : Option Held) (key k : List ℕ) (x : Counted) → ((h : Held) → what ≡ Some h → h.key ≡ key) → key ≡ k → counted_of what ≡ Some x
-    → what ≡ Some (record { key = k; count = x.count; value = x.bytes })
-under_then None key k x after same e = absurd (cc)
-under_then (Some h) key k x after same e =
-    let made : Counted = record { count = h.count; bytes = h.value } in
-    let is : made ≡ x = cc in
-    ap (λ (y : Counted). Some (record { key = h.key; count = y.count; value = y.bytes })) is
-    ∙ ap (λ (k : List ℕ). Some (record { key = k; count = x.count; value = x.bytes })) (after h refl ∙ same)
-
-pub stepped_holds : (c : Column) (tier s : ℕ) (now : Table) (what : Option Held) (key : List ℕ) (newest : ℕ → List ℕ) (content : ColumnMap) → IsOfKey c tier s now what key → HoldsContent c content
-    → HoldsContent (stepped c tier now newest) (with_under content key (counted_of what))
-stepped_holds c tier s now what key newest content is h = record {
-  there = λ k x long.
-      same_key_or key k (λ b. (if b then counted_of what else content k) ≡ Some x → IsUnder (stepped c tier now newest) k x)
-      (λ same e. (tier, s, is.low, holds_here c tier s now what tier s is.change refl refl ∙ under_then what key k x is.after same e))
-      (λ ne e.
-      let old : IsUnder c k x = h.there k x long e in
-      (old.0, old.1, old.2, holds_other c tier s now what old.0 old.1 is.change (λ a b. ne (sym (is.before _ (sym (ap (λ u. held ((c.tables u).slot old.1)) a ∙ ap (λ i. held ((c.tables tier).slot i)) b) ∙ old.3)))) ∙ old.3));
-  no_other = λ k x under. elim (value c tier s now what under.0 under.1 (record { key = k; count = x.count; value = x.bytes }) is.change under.3) [
-    | New a b e ↦
-        same_key_or key k (λ b. (if b then counted_of what else content k) ≡ Some x) (λ _. ap counted_of e) (λ ne. absurd (ne (sym (is.after _ e))))
-    | Old other e ↦
-        same_key_or key k (λ b. (if b then counted_of what else content k) ≡ Some x)
-        (λ same. let at = is.alone under.0 under.1 _ under.2 e (sym same) in absurd (other at.0 at.1))
-        (λ _. h.no_other k x (under.0, under.1, under.2, e))
-  ];
-}
 
 -- ---- what a step says of the entries
 
@@ -107,7 +25,8 @@ pub record IsNamed (c : Column) (tier s : ℕ) (now : Table) (what : Option Held
   pub found : (h : Held) → what ≡ Some h → (p : Place) × (e : ℕ) × HasEntry (stepped c tier now newest) p e × (entry_tier e ≡ tier) × (entry_slot e ≡ s)
 
 -- whether an entry names a slot
-pub names_or : (Q : Type 0) (e tier s : ℕ) → (entry_tier e ≡ tier → entry_slot e ≡ s → Q) → ((entry_tier e ≡ tier → entry_slot e ≡ s → ⊥) → Q) → Q
+pub names_or : (Q : Type 0) (e tier s : ℕ) → (entry_tier e ≡ tier → entry_slot e ≡ s → Q)
+    → ((entry_tier e ≡ tier → entry_slot e ≡ s → ⊥) → Q) → Q
 names_or Q e tier s hit miss =
     elim (eqb_tells (entry_tier e) tier) [
       | inl a ↦ elim (eqb_tells (entry_slot e) s) [ inl b ↦ hit a.1 b.1 | inr b ↦ miss (λ _ q. b.1 q) ]
@@ -118,7 +37,8 @@ names_or Q e tier s hit miss =
 pub entry_bits_are : (c : Column) (p : Place) (e : ℕ) → IsFixed c → HasEntry c p e → p.bits ≡ c.bits
 entry_bits_are c p e fixed has = elim has.there [ inl h ↦ h.0 | inr h ↦ let z = fixed.not_growing in let g = h.0 in absurd (omega arith) ]
 
-stepped_table : (c : Column) (tier u : ℕ) (now : Table) (P : Table → Type 0) → P now → P (c.tables u) → P (if u == tier then now else c.tables u)
+stepped_table : (c : Column) (tier u : ℕ) (now : Table) (P : Table → Type 0) → P now → P (c.tables u)
+    → P (if u == tier then now else c.tables u)
 stepped_table c tier u now P a b = same_or u tier (λ t. P (if t then now else c.tables u)) (λ _. a) (λ _. b)
 
 pub stepped_fixed : (c : Column) (tier : ℕ) (now : Table) (newest : ℕ → List ℕ) → IsFixed c → IsFixed (stepped c tier now newest)
@@ -129,11 +49,13 @@ pub entry_low : (c : Column) (p : Place) (e : ℕ) → IsColumn c → HasEntry c
 entry_low c p e is has = elim (is.named p e has).0 [ inl z ↦ absurd (has.not_empty z) | inr h ↦ let low = h.0 in omega arith ]
 
 -- an entry whose slot holds a value keeps the rule of entries
-index_entry : (c : Column) (e : ℕ) (h : Held) → entry_tier e < 16 → ((u : ℕ) → u < 16 → IsTable (c.tables u)) → held_by c e ≡ Some h → IsIndexEntry (end_of c) e
+index_entry : (c : Column) (e : ℕ) (h : Held) → entry_tier e < 16 → ((u : ℕ) → u < 16 → IsTable (c.tables u))
+    → held_by c e ≡ Some h → IsIndexEntry (end_of c) e
 index_entry c e h low tables holds =
     let within = held_within (c.tables (entry_tier e)) (entry_slot e) h (tables (entry_tier e) low) holds in inr (omega arith, within.0, within.1)
 
-pub stepped_is : (c : Column) (tier s : ℕ) (now : Table) (what : Option Held) (key : List ℕ) (newest : ℕ → List ℕ) → IsColumn c → IsFixed c → IsOfKey c tier s now what key
+pub stepped_is : (c : Column) (tier s : ℕ) (now : Table) (what : Option Held) (key : List ℕ) (newest : ℕ → List ℕ)
+    → IsColumn c → IsFixed c → IsOfKey c tier s now what key
     → IsNamed c tier s now what newest → IsColumn (stepped c tier now newest)
 stepped_is c tier s now what key newest is fixed of named =
     let last : Column = stepped c tier now newest in
@@ -183,7 +105,8 @@ pub record Keeps (c : Column) (content : ColumnMap) : Type 0 where
   pub fixed : IsFixed c
   pub holds : HoldsContent c content
 
-pub stepped_keeps : (c : Column) (content : ColumnMap) (tier s : ℕ) (now : Table) (what : Option Held) (key : List ℕ) (newest : ℕ → List ℕ) → Keeps c content → IsOfKey c tier s now what key
+pub stepped_keeps : (c : Column) (content : ColumnMap) (tier s : ℕ) (now : Table) (what : Option Held) (key : List ℕ) (newest : ℕ → List ℕ)
+    → Keeps c content → IsOfKey c tier s now what key
     → IsNamed c tier s now what newest → Keeps (stepped c tier now newest) (with_under content key (counted_of what))
 stepped_keeps c content tier s now what key newest keeps of named = record {
   is = stepped_is c tier s now what key newest keeps.is keeps.fixed of named;
@@ -192,8 +115,10 @@ stepped_keeps c content tier s now what key newest keeps of named = record {
 }
 
 -- the slot of an entry gets nothing, or another value of its key
-pub entry_of_key : (c : Column) (p : Place) (entry : ℕ) (h : Held) (now : Table) (what : Option Held) → IsColumn c → HasEntry c p entry → held_by c entry ≡ Some h
-    → Changes (c.tables (entry_tier entry)) now (entry_slot entry) what → ((g : Held) → what ≡ Some g → g.key ≡ h.key) → IsOfKey c (entry_tier entry) (entry_slot entry) now what h.key
+pub entry_of_key : (c : Column) (p : Place) (entry : ℕ) (h : Held) (now : Table) (what : Option Held) → IsColumn c
+    → HasEntry c p entry → held_by c entry ≡ Some h
+    → Changes (c.tables (entry_tier entry)) now (entry_slot entry) what → ((g : Held) → what ≡ Some g → g.key ≡ h.key)
+    → IsOfKey c (entry_tier entry) (entry_slot entry) now what h.key
 entry_of_key c p entry h now what is has holds ch after = record {
   low = entry_low c p entry is has;
   change = ch;
