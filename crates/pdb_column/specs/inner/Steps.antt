@@ -1,5 +1,5 @@
 -- Steps of a column's picture.
-use Rattle.std.specs.Prelude.{◌≡◌, ◌==◌, ℕ, List, length, slice_set, Option, if◌then◌else◌}
+use Rattle.std.specs.Prelude.{◌==◌, ℕ, List, length, slice_set, Option, if◌then◌else◌}
 use Rattle.std.specs.Str.{bytes_eq}
 use Rattle.sdb_base.specs.Content.{Counted}
 use Rattle.pdb_model.specs.Chunks.{chunk_number, entry_of, entry_slot, entry_tier}
