@@ -16,3 +16,7 @@ pub mod Pigeons
 pub mod Crowding
 pub mod KeyChunks
 pub mod Read
+pub mod OneColumn
+pub mod Cells
+pub mod Hits
+pub mod Entered

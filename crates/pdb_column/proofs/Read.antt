@@ -13,6 +13,9 @@ use Rattle.pdb_column.specs.Answers.{IsGot, LookUpSays, look_up_disk_fails}
 use Rattle.pdb_column.specs.Damages.{BreaksColumn}
 use Rattle.pdb_column.specs.inner.Faults.{as_look_up}
 use Rattle.pdb_model.specs.Chunks.{CarriesKey}
+use Rattle.pdb_value.specs.Values.{IsCountOf}
+use Rattle.std.specs.Option.{is_some}
+use Rattle.pdb_column.specs.inner.Changes.{IsOfKey}
 use Rattle.pdb_column.specs.inner.KeyChunks.{IsReadAt, NamesHeld}
 
 pub head_breaks : (cells : Content) (column : ℕ) (e : ValueFault) → FaultSays (IsBrokenHead cells column) NoTier e → FaultSays (BreaksColumn cells column) NoTier e
@@ -56,3 +59,21 @@ pub not_here : (cells : Content) (column base at e : ℕ) (h : Held) (key after 
     → e ≢ 0 → NamesHeld cells column e h → CarriesKey base key e → h.key ≢ key
 not_here cells column base at e h key after b is f read some named carries =
     subst (λ b. IsReadAt base at h key after b) f (read (λ z. some (is ∙ z)) (subst (λ n. NamesHeld cells column n h) is named)) (subst (CarriesKey base key) is carries)
+
+pub counted_of_key : (base entry : ℕ) (h : Held) (key : List ℕ) (o : Option ℕ) → IsCountOf h key o → IsOfKey base entry h key (is_some o)
+counted_of_key base entry h key None is = λ _. is
+counted_of_key base entry h key (Some n) is = is.0
+
+-- an entry whose slot doesn't hold the key isn't its entry
+pub not_of_key : (cells : Content) (column base at e : ℕ) (h : Held) (key : List ℕ) (b : Bool) → e ≡ at → b ≡ false → (at ≢ 0 → NamesHeld cells column at h → IsOfKey base at h key b)
+    → e ≢ 0 → NamesHeld cells column e h → CarriesKey base key e → h.key ≢ key
+not_of_key cells column base at e h key b is f read some named carries =
+    subst (λ b. IsOfKey base at h key b) f (read (λ z. some (is ∙ z)) (subst (λ n. NamesHeld cells column n h) is named)) (subst (CarriesKey base key) is carries)
+
+pub value_breaks_then : (P : Content → Type 0) (column tier : ℕ) (e : ValueFault) → tier ≤ 15 → FaultSays (λ file cell. (x : Content) × P x × BreaksValue x column tier file cell) NoTier e
+    → FaultSays (λ file cell. (x : Content) × P x × BreaksColumn x column file cell) NoTier e
+value_breaks_then P column tier OutOfMemory low h = tt
+value_breaks_then P column tier Disk low h = tt
+value_breaks_then P column tier (Damaged file cell) low (x, p, inl head) = (x, p, inl head)
+value_breaks_then P column tier (Damaged file cell) low (x, p, inr slot) = (x, p, inr (inr (inr (tier, omega arith, slot))))
+value_breaks_then P column tier (TierFull u) low h = h

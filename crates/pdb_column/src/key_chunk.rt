@@ -1,18 +1,19 @@
-ghost use Rattle.std.specs.Prelude.{◌≡◌, ◌≢◌, ◌⊎◌, ◌≤◌, ◌<◌, ◌+◌, ◌^◌, ℕ, All, Any, IfOk, IfErr, IsTrue, MatchBool, MatchOption, Some, length};
+ghost use Rattle.std.specs.Prelude.{◌≡◌, ◌≢◌, ◌⊎◌, ◌≤◌, ◌<◌, ◌+◌, ◌^◌, ℕ, All, Any, IfOk, IfErr, IsTrue, MatchBool, MatchOption, OnErr, OnOk, Some, length};
 ghost use Rattle.sdb_io.specs.Faults.{CountsFault};
-ghost use Rattle.pdb_cells.specs.Content.{Content};
+ghost use Rattle.arrayvec.specs.ArrayVec.{array_vec_len};
+ghost use Rattle.pdb_cells.specs.Content.{Content, put_cell};
 ghost use Rattle.pdb_cells.specs.Sizes.{size_of};
-ghost use Rattle.pdb_model.specs.Chunks.{IsChunk, chunk_number, entry_tier};
+ghost use Rattle.pdb_model.specs.Chunks.{IsChunk, chunk_bytes as spelled, chunk_number, entry_tier};
 ghost use Rattle.pdb_model.specs.Files.{head_cell, index_file};
 ghost use Rattle.pdb_model.specs.Heads.{Head, IsHead, IsHeadCell, SpellsHead};
-ghost use Rattle.pdb_value.specs.Faults.{FaultSays, NoCell, NoTier, disk_fails};
+ghost use Rattle.pdb_value.specs.Faults.{Drafts, FaultSays, NoCell, NoTier, disk_fails};
 ghost use Rattle.pdb_column.specs.Damages.{BreaksColumn};
 ghost use Rattle.pdb_column.specs.Holding.{HoldsColumn};
 ghost use Rattle.pdb_column.specs.Maps.{ColumnMap};
 ghost use Rattle.pdb_column.specs.inner.KeyChunks.{HasKeyChunk, HaveTiers, IsEntryOf, IsFixedHead, IsNoEntryOf};
 
-use pdb_cells::{CellName, Cells, HEAD_FILE};
-use pdb_index::{Chunk, address, chunk_of, read_chunk};
+use pdb_cells::{CellName, Cells, Draft, HEAD_FILE, OutOfMemory};
+use pdb_index::{Chunk, address, chunk_bytes, chunk_of, read_chunk};
 use pdb_value::{ValueFault, ends_of, read_head};
 
 /// The chunk of a key.
@@ -130,4 +131,24 @@ pub(crate) fn read_key_chunk<C: Cells>(
         number,
         entries,
     })
+}
+
+/// Puts a chunk, which has 64 entries. Its number is below 2^32. An `Err` puts nothing.
+pub(crate) fn put_key_chunk<C: Cells>(
+    d: &mut Draft<'_, C>,
+    column: u8,
+    chunk: &KeyChunk,
+) -> Result<(), OutOfMemory>
+    requires column { column ≤ 1 }
+    requires places { array_vec_len chunk.now.entries ≡ 64 }
+    requires number { chunk.now.number < 2 ^ 32 }
+    ensures same_reference { d.new.under.ghost_name ≡ d.old.under.ghost_name }
+    ensures below { d.new.under.now ≡ d.old.under.now }
+    ensures cells { (cells : Content) → Drafts d.old.puts (C.seen d.old.under.now) cells → OnOk result (Drafts d.new.puts (C.seen d.new.under.now)
+        (put_cell (index_file column chunk.now.base) chunk.now.number (spelled chunk.now.entries.items) cells)) }
+    ensures err { OnErr result (d.new.puts ≡ d.old.puts) }
+{
+    let name = chunk_name(column, chunk.base, chunk.number);
+    let bytes = chunk_bytes(&chunk.entries);
+    d.put(name, &bytes)
 }

@@ -2,9 +2,12 @@
 #![tactic(auto)]
 
 mod fault;
+mod find;
+mod insert;
 mod key_chunk;
 mod laws;
 mod look_up;
+mod remove;
 
 pub use fault::{ColumnFault, PlanFault};
 pub use laws::plain_keys_stand_as_their_hashes;
