@@ -97,7 +97,7 @@ pub none_there : (after : Content) (column tier slot left : ℕ) (t : Table) →
 none_there after column tier slot left t zero =
     same_or left 0 (λ b. HasTable after column tier (if b then removed t slot else recounted t slot left) → HasTable after column tier (removed t slot)) (λ _ h. h) (λ ne. absurd (ne zero))
 
-held_entry : (c : Column) (content : ColumnMap) (key entries : List ℕ) (place tier slot : ℕ) → (hit : IsHit entries place tier slot) → (at : IsHeldAt c content key tier slot)
+pub held_entry : (c : Column) (content : ColumnMap) (key entries : List ℕ) (place tier slot : ℕ) → (hit : IsHit entries place tier slot) → (at : IsHeldAt c content key tier slot)
     → held_by c hit.entry ≡ Some (record { key = key; count = at.counted.count; value = at.counted.bytes })
 held_entry c content key entries place tier slot hit at =
     ap (λ t. held ((c.tables t).slot (entry_slot hit.entry))) (sym hit.tier_is) ∙ (ap (λ s. held ((c.tables tier).slot s)) (sym hit.slot_is) ∙ at.holds)

@@ -20,3 +20,4 @@ pub mod OneColumn
 pub mod Cells
 pub mod Hits
 pub mod Entered
+pub mod Located
