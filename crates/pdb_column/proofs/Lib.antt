@@ -21,3 +21,4 @@ pub mod Cells
 pub mod Hits
 pub mod Entered
 pub mod Located
+pub mod Planned
