@@ -1,5 +1,5 @@
 -- Steps of a column's picture.
-use Rattle.std.specs.Prelude.{◌≡◌, ◌==◌, ℕ, List, length, slice_set, Option, if◌then◌else◌}
+use Rattle.std.specs.Prelude.{◌==◌, ℕ, List, length, slice_set, Option, if◌then◌else◌}
 use Rattle.std.specs.Str.{bytes_eq}
 use Rattle.sdb_base.specs.Content.{Counted}
 use Rattle.pdb_model.specs.Chunks.{chunk_number, entry_of, entry_slot, entry_tier}
@@ -26,15 +26,15 @@ slot_for c len = next_slot (c.tables (tier_of len)).free (c.tables (tier_of len)
 -- a value is placed, and its entry put at a place of its key's chunk
 abbrev pub inserted : Column → List ℕ → ℕ → List ℕ → ℕ → Column
 inserted c key count value place =
-    let tier = tier_of (length value); n = chunk_number c.bits key in
+    let tier = tier_of (length value) in let n = chunk_number c.bits key in
     with_chunk (with_table c tier (placed (c.tables tier) key count value)) n
-        (slice_set (c.newest n) place (entry_of c.base key tier (slot_for c (length value))))
+    (slice_set (c.newest n) place (entry_of c.base key tier (slot_for c (length value))))
 
 -- the value that an entry at a place names is removed, and the entry cleared
 abbrev pub erased : Column → Place → ℕ → Column
 erased c p entry =
     with_chunk (with_table c (entry_tier entry) (removed (c.tables (entry_tier entry)) (entry_slot entry))) p.chunk
-        (slice_set (c.newest p.chunk) p.place 0)
+    (slice_set (c.newest p.chunk) p.place 0)
 
 -- the value that an entry names gets another count
 abbrev pub counted_as : Column → ℕ → ℕ → Column

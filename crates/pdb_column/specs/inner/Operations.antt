@@ -1,0 +1,21 @@
+-- What an operation needs.
+use Rattle.std.specs.Prelude.{◌≡◌, ℕ, List}
+use Rattle.sdb_base.specs.declared.op.Op.{Op}
+use Rattle.sdb_base.specs.declared.op.Op.TheVariants.{AddRef, DropRef, Erase, Put}
+use Rattle.pdb_model.specs.Chunks.{chunk_number}
+use Rattle.pdb_column.specs.Maps.{ColumnMap, Inserts, IsCrowded}
+
+-- the column of an operation's key
+abbrev pub column_of : Op → ℕ
+column_of (AddRef key bytes) = 0
+column_of (DropRef key) = 0
+column_of (Put key bytes) = 1
+column_of (Erase key) = 1
+
+-- the operation puts a value under a key for which this chunk of a column has no room
+pub record Crowds (bases : ℕ → ℕ) (contents : ℕ → ColumnMap) (op : Op) (column bits chunk : ℕ) : Type 0 where
+  pub key : List ℕ
+  pub inserts : Inserts column (contents column) op key
+  pub bits_are : bits ≡ bases column
+  pub chunk_is : chunk ≡ chunk_number bits key
+  pub crowded : IsCrowded (contents column) bits key
