@@ -132,7 +132,7 @@ both_held cells mid column tier base b number content next now n entries new hol
     let still : IsFixed one = record { not_growing = holds.fixed.not_growing; bits_are = holds.fixed.bits_are } in
     let spelled = chunk_spelled mid column n one entries (table_spelled cells mid column tier holds.picture now holds.spelled holds.fixed low only head there) still within is in
     let all : put_cell (index_file column one.bits) n (chunk_bytes entries) mid ≡ put_cell (index_file column b) number (chunk_bytes new) mid =
-        ap (λ k. put_cell (index_file column k) n (chunk_bytes entries) mid) bits ∙ (ap (λ k. put_cell (index_file column b) k (chunk_bytes entries) mid) at ∙ ap (λ x. put_cell (index_file column b) number (chunk_bytes x) mid) same) in
+    ap (λ k. put_cell (index_file column k) n (chunk_bytes entries) mid) bits ∙ (ap (λ k. put_cell (index_file column b) k (chunk_bytes entries) mid) at ∙ ap (λ x. put_cell (index_file column b) number (chunk_bytes x) mid) same) in
     record {
       picture = with_chunk one n entries;
       spelled = subst (λ (cells : Content). SpellsColumn cells column (with_chunk one n entries)) all spelled;

@@ -93,9 +93,9 @@ inserted_held cells mid column b number tier slot entry content key entries new 
     let same = newest_is c key b entries in_it in
     let some : 1 ≤ slot = subst (λ s. 1 ≤ s) (sym slot_is) (next_of t.slot t.free t.end (holds.spelled.tables to low).is) in
     let is : entry ≡ entry_of c.base key to (next_slot t.free t.end) =
-        entry_is some ∙ (ap (λ k. entry_of b key k slot) tier_is ∙ (ap (λ s. entry_of b key to s) slot_is ∙ ap (λ n. entry_of n key to (next_slot t.free t.end)) (sym in_it.base_is))) in
+    entry_is some ∙ (ap (λ k. entry_of b key k slot) tier_is ∙ (ap (λ s. entry_of b key to s) slot_is ∙ ap (λ n. entry_of n key to (next_slot t.free t.end)) (sym in_it.base_is))) in
     let set_is : slice_set (c.newest (chunk_number c.bits key)) at.place (entry_of c.base key to (next_slot t.free t.end)) ≡ new =
-        ap (λ xs. slice_set xs at.place (entry_of c.base key to (next_slot t.free t.end))) same ∙ (ap (λ e. slice_set entries at.place e) (sym is) ∙ sym at.is) in
+    ap (λ xs. slice_set xs at.place (entry_of c.base key to (next_slot t.free t.end))) same ∙ (ap (λ e. slice_set entries at.place e) (sym is) ∙ sym at.is) in
     let only_to = subst (λ k. OnlyTable column k cells mid) tier_is only in
     let there_to : HasTable mid column to (placed t key 1 bytes) = subst (λ k. HasTable mid column k (placed t key 1 bytes)) tier_is there in
     record {

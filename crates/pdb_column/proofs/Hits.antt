@@ -76,15 +76,15 @@ one_count n bytes = Some (record { count = n; bytes = bytes })
 fewer_left : (x : Option Counted) (c : Counted) (left : ℕ) → x ≡ Some c → left ≡ count_down c.count → 0 < left → Some (record { count = left; bytes = c.bytes }) ≡ without_reference x
 fewer_left x c left e is some =
     let now : Some (record { count = left; bytes = c.bytes }) ≡ without_reference (Some c) =
-        same_or c.count 1 (λ b. ◌≡◌ {A = Option Counted} (Some (record { count = left; bytes = c.bytes })) (if b then None else Some (record { count = count_down c.count; bytes = c.bytes })))
-        (λ one. let z : left ≡ 0 = is ∙ ap count_down one in absurd (omega arith)) (λ _. ap (λ (n : ℕ). one_count n c.bytes) is) in
+    same_or c.count 1 (λ b. ◌≡◌ {A = Option Counted} (Some (record { count = left; bytes = c.bytes })) (if b then None else Some (record { count = count_down c.count; bytes = c.bytes })))
+    (λ one. let z : left ≡ 0 = is ∙ ap count_down one in absurd (omega arith)) (λ _. ap (λ (n : ℕ). one_count n c.bytes) is) in
     now ∙ ap without_reference (sym e)
 
 none_left : (x : Option Counted) (c : Counted) (left : ℕ) → x ≡ Some c → left ≡ count_down c.count → left ≡ 0 → 1 ≤ c.count → None ≡ without_reference x
 none_left x c left e is zero some =
     let one : c.count ≡ 1 = down_to_none c.count some (sym is ∙ zero) in
     let now : None ≡ without_reference (Some c) =
-        same_or c.count 1 (λ b. ◌≡◌ {A = Option Counted} None (if b then None else Some (record { count = count_down c.count; bytes = c.bytes }))) (λ _. refl) (λ ne. absurd (ne one)) in
+    same_or c.count 1 (λ b. ◌≡◌ {A = Option Counted} None (if b then None else Some (record { count = count_down c.count; bytes = c.bytes }))) (λ _. refl) (λ ne. absurd (ne one)) in
     now ∙ ap without_reference (sym e)
 
 -- ---- a lost reference

@@ -138,7 +138,7 @@ written_over cells after column b content key entries bytes place tier slot hold
     let only_e = subst (λ t. OnlyTable column t cells after) hit.tier_is only in
     let there_t : HasTable after column (entry_tier e) (holding (c.tables (entry_tier e)) slot key count bytes) = subst (λ t. HasTable after column t (holding (c.tables t) slot key count bytes)) hit.tier_is there in
     let there_e : HasTable after column (entry_tier e) (holding (c.tables (entry_tier e)) (entry_slot e) key count bytes) =
-        subst (λ s. HasTable after column (entry_tier e) (holding (c.tables (entry_tier e)) s key count bytes)) hit.slot_is there_t in
+    subst (λ s. HasTable after column (entry_tier e) (holding (c.tables (entry_tier e)) s key count bytes)) hit.slot_is there_t in
     let low_e : entry_tier e < 16 = subst (λ t. t < 16) hit.tier_is low in
     let now = table_held cells after column (entry_tier e) b content (with_under content key (one count bytes)) (holding (c.tables (entry_tier e)) (entry_slot e) key count bytes) holds low_e only_e keeps there_e
     (overwriting c content (place_of b key place) e value bytes holds.is holds.fixed holds.holds (entry_in c key b place e entries in_it hit.not_empty hit.there) (held_entry c content key entries place tier slot hit at) there_e.is) in
