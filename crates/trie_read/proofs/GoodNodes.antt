@@ -1,5 +1,5 @@
 -- The nodes of a trie within its limits are never bad where they hang.
-use Rattle.std.proofs.Common.{◌≡◌, ◌⊎◌, ℕ, zero, suc, ◌+◌, ◌<◌, ◌≤◌, Bool, true, false, eqb, ltb, cond, List, [], ◌∷◌, ◌++◌, length, map, get_or, Option, Some, None, refl, ap, subst, sym, ◌∙◌, inl, inr, arith, length-append}
+use Rattle.std.proofs.Common.{◌≡◌, ◌⊎◌, ℕ, zero, suc, ◌+◌, ◌<◌, ◌≤◌, Bool, true, false, eqb, ltb, cond, List, [], ◌∷◌, ◌++◌, length, map, get_or, Some, None, refl, ap, subst, sym, ◌∙◌, inl, inr, arith, length-append}
 use Rattle.std.specs.Prelude.{◌&&◌, ◌||◌, nat_lt, All, Contains, Ok}
 use Rattle.std.specs.List.{AllByRecursion, list_any}
 use Rattle.std.specs.Str.{bytes_eq}
@@ -10,10 +10,10 @@ use Rattle.std.proofs.lemmas.List.Folds.{list_any_none}
 use Rattle.std.proofs.lemmas.Slice.Eq.{bytes_eq-Decides}
 use Rattle.sdb_blake2.specs.Blake2b.{H}
 use Rattle.trie_model.specs.Node.{IsNode, Node, merkle_value, spelling}
-use Rattle.trie_model.specs.Nodes.{PathNode, stored_nodes, stored_over}
+use Rattle.trie_model.specs.Nodes.{PathNode, stored_nodes}
 use Rattle.trie_model.specs.State.{State}
-use Rattle.trie_model.specs.Trie.{Suffix, below, child_value, common_prefix, levels_of, node_of_all, node_over, suffixes_of, value_here}
-use Rattle.trie_codec.specs.Reading.{is_nothing, most_nibbles, node_of_bytes}
+use Rattle.trie_model.specs.Trie.{Suffix, below, child_value, common_prefix, levels_of, node_of_all, suffixes_of, value_here}
+use Rattle.trie_codec.specs.Reading.{is_nothing, node_of_bytes}
 use Rattle.trie_codec.proofs.Spellings.{whole_read}
 use Rattle.trie_root.specs.Suffixes.{IsEntry, IsSuffix}
 use Rattle.trie_root.proofs.Levels.{levels_above_none, levels_below, same_node}
