@@ -29,3 +29,4 @@ pub mod FarNodes
 pub mod SearchEnds
 pub mod SearchBegins
 pub mod PartsOfChildren
+pub mod GoodNodes

@@ -1,4 +1,4 @@
-ghost use Rattle.std.specs.Prelude.{◌≡◌, ◌⊎◌, ℕ, ◌+◌, ◌<◌, ◌≤◌, Bool, true, List, [], ◌∷◌, ◌++◌, length, ◌↔◌, All, Contains, None, Some, count_by, filter, is_some, suc};
+ghost use Rattle.std.specs.Prelude.{◌≡◌, ◌⊎◌, ℕ, ◌+◌, ◌<◌, ◌≤◌, Bool, true, false, List, [], ◌∷◌, ◌++◌, length, ◌↔◌, All, Contains, None, Some, count_by, filter, is_some, suc};
 ghost use Rattle.std.specs.FinMap.{entries, get};
 ghost use Rattle.sdb_base.specs.Nibbles.{nibbles_of};
 ghost use Rattle.trie_model.specs.Fetches.{on_the_way};
@@ -8,6 +8,7 @@ ghost use Rattle.trie_model.specs.State.{State};
 ghost use Rattle.trie_model.specs.Trie.{Suffix, after_prefix, below, child_value, common_prefix, node_of_all, node_over, suffixes_of, trie_root, value_here};
 ghost use Rattle.trie_root.specs.Suffixes.{IsEntry};
 ghost use Rattle.trie_read.specs.Collision.{HaveCollision};
+ghost use Rattle.trie_read.specs.Depth.{is_bad_node};
 ghost use Rattle.trie_read.specs.Paths.{AreNibbles, Hangs, IsHung, IsLong, IsNamed, RiseByPath, child_at, child_path, node_at};
 
 /// The nodes of a trie rise strictly by path, so that no path is there twice; those that are stored too.
@@ -86,4 +87,11 @@ pub fn a_value_is_at_the_end_of_its_key()
         → value_here (below rest suffixes) ≡ None }
     ensures on { (rest left : List ℕ) (suffixes : List Suffix) → after_prefix (common_prefix suffixes) rest ≡ Some left
         → value_here (below rest suffixes) ≡ value_here (below left (below (common_prefix suffixes) suffixes)) }
+{}
+
+/// The stored nodes of a state within the limits are never bad where they hang: they read as nodes, no partial key goes past
+/// the longest key, no value is too long, and only a root is the node of the empty trie.
+pub fn stored_nodes_are_good()
+    ensures { (m : State) (n : PathNode) → All IsEntry (entries m) → Contains (stored_nodes m) n
+        → is_bad_node (length n.path) n.bytes ≡ false }
 {}

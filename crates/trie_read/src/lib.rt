@@ -24,7 +24,7 @@ pub use fault::TrieFault;
 pub use laws::{
     a_key_goes_down_one_child, a_root_binds, a_value_is_at_the_end_of_its_key,
     children_are_the_nodes_below, nodes_are_named_from_above, nodes_hang_where_keys_part,
-    nodes_rise_by_path, puts_and_drops_balance,
+    nodes_rise_by_path, puts_and_drops_balance, stored_nodes_are_good,
 };
 pub use next_job::NextJob;
 pub use read_job::ReadJob;
