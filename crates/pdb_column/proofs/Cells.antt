@@ -1,5 +1,5 @@
 -- The cells of a column after a step spell its picture after it.
-use Rattle.std.proofs.Common.{◌≡◌, ◌≢◌, ◌⊎◌, ◌∷◌, [], ◌+◌, ◌^◌, ◌<◌, ◌≤◌, if◌then◌else◌, All, ℕ, List, Some, length, take, set, refl, sym, ap, subst, ◌∙◌, arith, inl, inr}
+use Rattle.std.proofs.Common.{◌≡◌, ◌∷◌, [], ◌+◌, ◌^◌, ◌<◌, if◌then◌else◌, ℕ, List, take, sym, ap, subst, ◌∙◌, arith}
 use Rattle.std.proofs.Math.ListN.{length-set}
 use Rattle.std.proofs.lemmas.List.Elements.{All-set}
 use Rattle.std.specs.Prelude.{slice_set}
@@ -15,7 +15,7 @@ use Rattle.pdb_value.proofs.Spelled.{spelled_again}
 use Rattle.pdb_value.proofs.Written.{not_head, put_file, put_here, put_index}
 use Rattle.pdb_column.specs.Holding.{HoldsColumn, IsFixed}
 use Rattle.pdb_column.specs.Maps.{ColumnMap}
-use Rattle.pdb_column.specs.inner.KeyChunks.{HasKeyChunk, IsFixedHead}
+use Rattle.pdb_column.specs.inner.KeyChunks.{HasKeyChunk}
 use Rattle.pdb_column.specs.inner.Steps.{with_chunk, with_table}
 use Rattle.pdb_column.proofs.Cases.{same_or}
 use Rattle.pdb_column.proofs.OneColumn.{index_kept, index_not_table, next_index, not_index}
@@ -132,7 +132,7 @@ both_held cells mid column tier base b number content next now n entries new hol
     let still : IsFixed one = record { not_growing = holds.fixed.not_growing; bits_are = holds.fixed.bits_are } in
     let spelled = chunk_spelled mid column n one entries (table_spelled cells mid column tier holds.picture now holds.spelled holds.fixed low only head there) still within is in
     let all : put_cell (index_file column one.bits) n (chunk_bytes entries) mid ≡ put_cell (index_file column b) number (chunk_bytes new) mid =
-        ap (λ k. put_cell (index_file column k) n (chunk_bytes entries) mid) bits ∙ (ap (λ k. put_cell (index_file column b) k (chunk_bytes entries) mid) at ∙ ap (λ x. put_cell (index_file column b) number (chunk_bytes x) mid) same) in
+    ap (λ k. put_cell (index_file column k) n (chunk_bytes entries) mid) bits ∙ (ap (λ k. put_cell (index_file column b) k (chunk_bytes entries) mid) at ∙ ap (λ x. put_cell (index_file column b) number (chunk_bytes x) mid) same) in
     record {
       picture = with_chunk one n entries;
       spelled = subst (λ (cells : Content). SpellsColumn cells column (with_chunk one n entries)) all spelled;

@@ -1,5 +1,5 @@
 -- A value is placed, and its entry put into its key's chunk.
-use Rattle.std.proofs.Common.{◌≡◌, ◌≢◌, ◌⊎◌, ◌∷◌, [], ◌+◌, ◌^◌, ◌<◌, ◌≤◌, All, ℕ, List, Option, Some, None, Result, Ok, Err, OnOk, false, true, length, refl, sym, ap, subst, ◌∙◌, arith, inl, inr}
+use Rattle.std.proofs.Common.{◌≡◌, ◌≢◌, ◌∷◌, [], ◌^◌, ◌<◌, ◌≤◌, All, ℕ, List, Some, None, Result, Ok, Err, OnOk, false, length, sym, ap, subst, ◌∙◌, arith, inl, inr}
 use Rattle.std.specs.Option.{option_map}
 use Rattle.std.specs.Prelude.{is_err, slice_get, slice_set}
 use Rattle.pdb_cells.specs.Content.{Content, put_cell}
@@ -93,9 +93,9 @@ inserted_held cells mid column b number tier slot entry content key entries new 
     let same = newest_is c key b entries in_it in
     let some : 1 ≤ slot = subst (λ s. 1 ≤ s) (sym slot_is) (next_of t.slot t.free t.end (holds.spelled.tables to low).is) in
     let is : entry ≡ entry_of c.base key to (next_slot t.free t.end) =
-        entry_is some ∙ (ap (λ k. entry_of b key k slot) tier_is ∙ (ap (λ s. entry_of b key to s) slot_is ∙ ap (λ n. entry_of n key to (next_slot t.free t.end)) (sym in_it.base_is))) in
+    entry_is some ∙ (ap (λ k. entry_of b key k slot) tier_is ∙ (ap (λ s. entry_of b key to s) slot_is ∙ ap (λ n. entry_of n key to (next_slot t.free t.end)) (sym in_it.base_is))) in
     let set_is : slice_set (c.newest (chunk_number c.bits key)) at.place (entry_of c.base key to (next_slot t.free t.end)) ≡ new =
-        ap (λ xs. slice_set xs at.place (entry_of c.base key to (next_slot t.free t.end))) same ∙ (ap (λ e. slice_set entries at.place e) (sym is) ∙ sym at.is) in
+    ap (λ xs. slice_set xs at.place (entry_of c.base key to (next_slot t.free t.end))) same ∙ (ap (λ e. slice_set entries at.place e) (sym is) ∙ sym at.is) in
     let only_to = subst (λ k. OnlyTable column k cells mid) tier_is only in
     let there_to : HasTable mid column to (placed t key 1 bytes) = subst (λ k. HasTable mid column k (placed t key 1 bytes)) tier_is there in
     record {

@@ -5,9 +5,8 @@ use Rattle.std.proofs.lemmas.Option.{get_or_from_slice_get, slice_get-get_or, sl
 use Rattle.std.specs.Prelude.{slice_get, slice_set}
 use Rattle.sdb_base.specs.Content.{Counted, count_down, without_reference}
 use Rattle.pdb_cells.specs.Content.{Content, put_cell}
-use Rattle.pdb_model.specs.Breaks.{HasEnd}
 use Rattle.pdb_model.specs.Chunks.{IsChunk, IsIndexEntry, chunk_bytes, chunk_number, entry_slot, entry_tier}
-use Rattle.pdb_model.specs.Columns.{Column, HasEntry, SpellsColumn, held_by}
+use Rattle.pdb_model.specs.Columns.{Column, held_by}
 use Rattle.pdb_model.specs.Files.{OnlyTable, head_cell, index_file, table_cells}
 use Rattle.pdb_model.specs.Heads.{IsHeadCell}
 use Rattle.pdb_model.specs.Slots.{IsHeadOfParts, IsWhole}
@@ -17,7 +16,7 @@ use Rattle.pdb_value.specs.Faults.{HasTable}
 use Rattle.pdb_value.specs.Values.{IsUpToEnd, with_fewer}
 use Rattle.pdb_column.specs.Holding.{HoldsColumn}
 use Rattle.pdb_column.specs.Maps.{ColumnMap}
-use Rattle.pdb_column.specs.inner.Changes.{IsDropped, IsHeldAt, IsHit, dropped}
+use Rattle.pdb_column.specs.inner.Changes.{IsDropped, IsHeldAt, IsHit}
 use Rattle.pdb_column.specs.inner.KeyChunks.{HasKeyChunk, IsEntryOf}
 use Rattle.pdb_column.specs.inner.Steps.{with_under}
 use Rattle.pdb_column.proofs.Cases.{same_or, set_there}
@@ -76,15 +75,15 @@ one_count n bytes = Some (record { count = n; bytes = bytes })
 fewer_left : (x : Option Counted) (c : Counted) (left : ℕ) → x ≡ Some c → left ≡ count_down c.count → 0 < left → Some (record { count = left; bytes = c.bytes }) ≡ without_reference x
 fewer_left x c left e is some =
     let now : Some (record { count = left; bytes = c.bytes }) ≡ without_reference (Some c) =
-        same_or c.count 1 (λ b. ◌≡◌ {A = Option Counted} (Some (record { count = left; bytes = c.bytes })) (if b then None else Some (record { count = count_down c.count; bytes = c.bytes })))
-        (λ one. let z : left ≡ 0 = is ∙ ap count_down one in absurd (omega arith)) (λ _. ap (λ (n : ℕ). one_count n c.bytes) is) in
+    same_or c.count 1 (λ b. ◌≡◌ {A = Option Counted} (Some (record { count = left; bytes = c.bytes })) (if b then None else Some (record { count = count_down c.count; bytes = c.bytes })))
+    (λ one. let z : left ≡ 0 = is ∙ ap count_down one in absurd (omega arith)) (λ _. ap (λ (n : ℕ). one_count n c.bytes) is) in
     now ∙ ap without_reference (sym e)
 
 none_left : (x : Option Counted) (c : Counted) (left : ℕ) → x ≡ Some c → left ≡ count_down c.count → left ≡ 0 → 1 ≤ c.count → None ≡ without_reference x
 none_left x c left e is zero some =
     let one : c.count ≡ 1 = down_to_none c.count some (sym is ∙ zero) in
     let now : None ≡ without_reference (Some c) =
-        same_or c.count 1 (λ b. ◌≡◌ {A = Option Counted} None (if b then None else Some (record { count = count_down c.count; bytes = c.bytes }))) (λ _. refl) (λ ne. absurd (ne one)) in
+    same_or c.count 1 (λ b. ◌≡◌ {A = Option Counted} None (if b then None else Some (record { count = count_down c.count; bytes = c.bytes }))) (λ _. refl) (λ ne. absurd (ne one)) in
     now ∙ ap without_reference (sym e)
 
 -- ---- a lost reference

@@ -1,25 +1,24 @@
 -- A key is located, and its value counted up, written over, or left.
-use Rattle.std.proofs.Common.{◌≡◌, ◌≢◌, ◌⊎◌, ◌+◌, ◌==◌, ◌^◌, ◌<◌, ◌≤◌, if◌then◌else◌, All, MatchOption, IfSome, ℕ, List, OnOk, Option, Result, Ok, Err, Some, None, length, refl, sym, ap, subst, ◌∙◌, arith, inl, inr}
+use Rattle.std.proofs.Common.{◌≡◌, ◌≢◌, ◌<◌, ◌≤◌, if◌then◌else◌, All, MatchOption, IfSome, ℕ, List, OnOk, Option, Result, Ok, Err, Some, None, refl, sym, ap, subst, ◌∙◌, arith}
 use Rattle.std.proofs.lemmas.List.Elements.{All-get_or}
 use Rattle.std.proofs.lemmas.Option.{get_or_from_slice_get, slice_get_within}
 use Rattle.std.specs.Prelude.{slice_get}
-use Rattle.std.specs.Str.{bytes_eq}
 use Rattle.sdb_base.specs.Content.{Counted, count_up, with_reference, without_reference}
 use Rattle.pdb_cells.specs.Content.{Content}
 use Rattle.pdb_cells.specs.Puts.{drafted}
 use Rattle.pdb_cells.specs.declared.puts.Put.{Put}
-use Rattle.pdb_model.specs.Chunks.{IsChunk, chunk_number, entry_slot, entry_tier}
+use Rattle.pdb_model.specs.Chunks.{IsChunk, entry_slot, entry_tier}
 use Rattle.pdb_model.specs.Columns.{Column}
 use Rattle.pdb_model.specs.Files.{OnlyTable, head_cell}
 use Rattle.pdb_model.specs.Heads.{IsHeadCell}
-use Rattle.pdb_model.specs.Tables.{Held, Table, holding, recounted}
-use Rattle.pdb_value.specs.Faults.{FaultSays, HasTable, IsFullTier, NoCell, NoTier}
+use Rattle.pdb_model.specs.Tables.{Held, holding, recounted}
+use Rattle.pdb_value.specs.Faults.{FaultSays, HasTable, NoTier}
 use Rattle.pdb_value.specs.Values.{BreaksValue}
 use Rattle.pdb_value.specs.declared.fault.ValueFault.{ValueFault}
 use Rattle.pdb_value.proofs.Broken.{says_more}
 use Rattle.pdb_column.specs.Damages.{BreaksColumn}
 use Rattle.pdb_column.specs.Holding.{HoldsColumn}
-use Rattle.pdb_column.specs.Maps.{ColumnMap, IsCrowded}
+use Rattle.pdb_column.specs.Maps.{ColumnMap}
 use Rattle.pdb_column.specs.declared.fault.StepFault.{StepFault}
 use Rattle.pdb_column.specs.declared.fault.StepFault.TheVariants.{ChunkFull, Value}
 use Rattle.pdb_column.specs.inner.Changes.{IsChanged, IsDropped, IsHeldAt, IsHit, dropped}
@@ -28,8 +27,8 @@ use Rattle.pdb_column.specs.inner.KeyChunks.{HasKeyChunk, HaveTiers}
 use Rattle.pdb_column.specs.inner.Steps.{with_under}
 use Rattle.pdb_column.proofs.Cases.{same_key_or}
 use Rattle.pdb_column.proofs.Cells.{table_held}
-use Rattle.pdb_column.proofs.Hits.{held_entry, one_counted, recounted_held}
-use Rattle.pdb_column.proofs.KeyChunks.{IsIn, entry_in, in_picture, place_of}
+use Rattle.pdb_column.proofs.Hits.{held_entry, recounted_held}
+use Rattle.pdb_column.proofs.KeyChunks.{entry_in, in_picture, place_of}
 use Rattle.pdb_column.proofs.OneColumn.{column_from_table, column_itself, column_on, same_content}
 use Rattle.pdb_column.proofs.Overwriting.{overwriting}
 use Rattle.pdb_column.proofs.Read.{value_breaks}
@@ -138,7 +137,7 @@ written_over cells after column b content key entries bytes place tier slot hold
     let only_e = subst (λ t. OnlyTable column t cells after) hit.tier_is only in
     let there_t : HasTable after column (entry_tier e) (holding (c.tables (entry_tier e)) slot key count bytes) = subst (λ t. HasTable after column t (holding (c.tables t) slot key count bytes)) hit.tier_is there in
     let there_e : HasTable after column (entry_tier e) (holding (c.tables (entry_tier e)) (entry_slot e) key count bytes) =
-        subst (λ s. HasTable after column (entry_tier e) (holding (c.tables (entry_tier e)) s key count bytes)) hit.slot_is there_t in
+    subst (λ s. HasTable after column (entry_tier e) (holding (c.tables (entry_tier e)) s key count bytes)) hit.slot_is there_t in
     let low_e : entry_tier e < 16 = subst (λ t. t < 16) hit.tier_is low in
     let now = table_held cells after column (entry_tier e) b content (with_under content key (one count bytes)) (holding (c.tables (entry_tier e)) (entry_slot e) key count bytes) holds low_e only_e keeps there_e
     (overwriting c content (place_of b key place) e value bytes holds.is holds.fixed holds.holds (entry_in c key b place e entries in_it hit.not_empty hit.there) (held_entry c content key entries place tier slot hit at) there_e.is) in

@@ -1,4 +1,4 @@
-use Rattle.std.proofs.Common.{◌≡◌, ◌^◌, ◌<◌, ◌≤◌, ℕ, List, length, refl, sym, ap, subst, ◌∙◌, arith}
+use Rattle.std.proofs.Common.{◌≡◌, ◌^◌, ◌<◌, ℕ, length, refl, sym, subst, ◌∙◌, arith}
 use Rattle.std.proofs.lemmas.Result.{err_from_is_err_and}
 use Rattle.pdb_cells.specs.Content.{Content}
 use Rattle.pdb_model.specs.Files.{OnlyTable, head_cell}
@@ -31,9 +31,12 @@ returns-then-is_err-clause-sound g c cells content drafts holds chunk =
 pub returns-then-is_err-clause-faults : goal.returns-then-is_err-clause-faults
 returns-then-is_err-clause-faults g c cells drafts chunk =
     let full = c.put.ensures.full.0 (sym c.is_err.ensures.value ∙ c.if-is_err.true) in
-    let o = c.in_ok-at.ensures.only cells drafts in
-    (o.0, o.1, full_chunk o.0 c.args.column c.args.chunk.now.base c.args.chunk.now.number c.args.key.now c.args.chunk.now.entries.items
-    (chunk_kept cells o.0 c.args.column c.in_ok-at.at.tier c.args.chunk.now.base c.args.key.now c.args.chunk.now.entries.items chunk o.2 o.3) full c.requires.number.0)
+    let o = c.in_ok-at.ensures.only cells drafts in (
+      o.0,
+      o.1,
+      full_chunk o.0 c.args.column c.args.chunk.now.base c.args.chunk.now.number c.args.key.now c.args.chunk.now.entries.items
+          (chunk_kept cells o.0 c.args.column c.in_ok-at.at.tier c.args.chunk.now.base c.args.key.now c.args.chunk.now.entries.items chunk o.2 o.3) full c.requires.number.0,
+    )
 
 pub returns-in-Ok-clause-inserted : goal.returns-in-Ok-clause-inserted
 returns-in-Ok-clause-inserted g c cells content drafts holds chunk none =

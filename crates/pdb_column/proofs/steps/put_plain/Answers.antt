@@ -1,6 +1,5 @@
-use Rattle.std.proofs.Common.{◌≡◌, ◌≢◌, ◌<◌, ◌≤◌, ℕ, Some, None, All, Option, true, false, refl, sym, ap, subst, ◌∙◌, arith}
+use Rattle.std.proofs.Common.{◌≡◌, ◌<◌, ℕ, Some, None, refl, sym, subst, ◌∙◌, arith}
 use Rattle.std.proofs.lemmas.Result.{IfErr-weaker, err_from_is_err_and, on_ok_weaker}
-use Rattle.sdb_base.specs.Content.{Counted}
 use Rattle.pdb_cells.specs.Content.{Content}
 use Rattle.pdb_value.specs.Faults.{Drafts, HasTable, IsFullTier, NoCell, NoTier}
 use Rattle.pdb_model.specs.Tables.{holding}
@@ -8,7 +7,7 @@ use Rattle.pdb_column.specs.Damages.{BreaksColumn}
 use Rattle.pdb_column.specs.Holding.{HoldsColumn}
 use Rattle.pdb_column.specs.Maps.{IsCrowded}
 use Rattle.pdb_column.specs.inner.Changes.{IsDropped, dropped}
-use Rattle.pdb_column.specs.inner.Faults.{AnyTier, StepSays}
+use Rattle.pdb_column.specs.inner.Faults.{AnyTier}
 use Rattle.pdb_column.specs.inner.KeyChunks.{HasKeyChunk}
 use Rattle.pdb_column.proofs.Entered.{place_sound}
 use Rattle.pdb_column.proofs.Hits.{one_draft}
@@ -135,8 +134,12 @@ returns-clause-changed g c cells base content drafts holds single =
     let left : HoldsColumn d.0 1 c.remove.new.chunk.base (dropped content c.args.key.now) = subst (λ n. HoldsColumn d.0 1 n (dropped content c.args.key.now)) (sym b_is) d.2.holds in
     let chunk : HasKeyChunk d.0 1 c.args.key.now c.remove.new.chunk.base c.remove.new.chunk.entries.items = subst (λ n. HasKeyChunk d.0 1 c.args.key.now n c.remove.new.chunk.entries.items) (sym b_is) d.2.chunk in
     on_ok_weaker c.insert-2.result
-    (λ w. (w.0, w.1, over_dropped cells d.0 w.0 1 base content c.args.key.now c.remove.new.chunk.entries.items c.in-Some.hit.place (Some (record { count = 1; bytes = c.args.bytes.now })) gone
-    (changed_as d.0 w.0 1 c.remove.new.chunk.base base (dropped content c.args.key.now) c.args.key.now _ _ (b_is ∙ same) refl w.2)))
+    (λ w. (
+      w.0,
+      w.1,
+      over_dropped cells d.0 w.0 1 base content c.args.key.now c.remove.new.chunk.entries.items c.in-Some.hit.place (Some (record { count = 1; bytes = c.args.bytes.now })) gone
+          (changed_as d.0 w.0 1 c.remove.new.chunk.base base (dropped content c.args.key.now) c.args.key.now _ _ (b_is ∙ same) refl w.2),
+    ))
     (c.insert-2.ensures.inserted d.0 (dropped content c.args.key.now) d.1 left chunk (dropped_none content c.args.key.now at.counted at.is (single at.counted at.is)))
 
 pub returns-clause-uncrowded : goal.returns-clause-uncrowded
