@@ -1,5 +1,5 @@
 -- The cells of a column after a step spell its picture after it.
-use Rattle.std.proofs.Common.{◌≡◌, ◌≢◌, ◌⊎◌, ◌∷◌, [], ◌+◌, ◌^◌, ◌<◌, ◌≤◌, if◌then◌else◌, All, ℕ, List, Some, length, take, set, refl, sym, ap, subst, ◌∙◌, arith, inl, inr}
+use Rattle.std.proofs.Common.{◌≡◌, ◌∷◌, [], ◌+◌, ◌^◌, ◌<◌, if◌then◌else◌, ℕ, List, take, sym, ap, subst, ◌∙◌, arith}
 use Rattle.std.proofs.Math.ListN.{length-set}
 use Rattle.std.proofs.lemmas.List.Elements.{All-set}
 use Rattle.std.specs.Prelude.{slice_set}
@@ -15,7 +15,7 @@ use Rattle.pdb_value.proofs.Spelled.{spelled_again}
 use Rattle.pdb_value.proofs.Written.{not_head, put_file, put_here, put_index}
 use Rattle.pdb_column.specs.Holding.{HoldsColumn, IsFixed}
 use Rattle.pdb_column.specs.Maps.{ColumnMap}
-use Rattle.pdb_column.specs.inner.KeyChunks.{HasKeyChunk, IsFixedHead}
+use Rattle.pdb_column.specs.inner.KeyChunks.{HasKeyChunk}
 use Rattle.pdb_column.specs.inner.Steps.{with_chunk, with_table}
 use Rattle.pdb_column.proofs.Cases.{same_or}
 use Rattle.pdb_column.proofs.OneColumn.{index_kept, index_not_table, next_index, not_index}

@@ -1,5 +1,5 @@
 -- A value is placed, and its entry put into its key's chunk.
-use Rattle.std.proofs.Common.{◌≡◌, ◌≢◌, ◌⊎◌, ◌∷◌, [], ◌+◌, ◌^◌, ◌<◌, ◌≤◌, All, ℕ, List, Option, Some, None, Result, Ok, Err, OnOk, false, true, length, refl, sym, ap, subst, ◌∙◌, arith, inl, inr}
+use Rattle.std.proofs.Common.{◌≡◌, ◌≢◌, ◌∷◌, [], ◌^◌, ◌<◌, ◌≤◌, All, ℕ, List, Some, None, Result, Ok, Err, OnOk, false, length, sym, ap, subst, ◌∙◌, arith, inl, inr}
 use Rattle.std.specs.Option.{option_map}
 use Rattle.std.specs.Prelude.{is_err, slice_get, slice_set}
 use Rattle.pdb_cells.specs.Content.{Content, put_cell}

@@ -5,9 +5,8 @@ use Rattle.std.proofs.lemmas.Option.{get_or_from_slice_get, slice_get-get_or, sl
 use Rattle.std.specs.Prelude.{slice_get, slice_set}
 use Rattle.sdb_base.specs.Content.{Counted, count_down, without_reference}
 use Rattle.pdb_cells.specs.Content.{Content, put_cell}
-use Rattle.pdb_model.specs.Breaks.{HasEnd}
 use Rattle.pdb_model.specs.Chunks.{IsChunk, IsIndexEntry, chunk_bytes, chunk_number, entry_slot, entry_tier}
-use Rattle.pdb_model.specs.Columns.{Column, HasEntry, SpellsColumn, held_by}
+use Rattle.pdb_model.specs.Columns.{Column, held_by}
 use Rattle.pdb_model.specs.Files.{OnlyTable, head_cell, index_file, table_cells}
 use Rattle.pdb_model.specs.Heads.{IsHeadCell}
 use Rattle.pdb_model.specs.Slots.{IsHeadOfParts, IsWhole}
@@ -17,7 +16,7 @@ use Rattle.pdb_value.specs.Faults.{HasTable}
 use Rattle.pdb_value.specs.Values.{IsUpToEnd, with_fewer}
 use Rattle.pdb_column.specs.Holding.{HoldsColumn}
 use Rattle.pdb_column.specs.Maps.{ColumnMap}
-use Rattle.pdb_column.specs.inner.Changes.{IsDropped, IsHeldAt, IsHit, dropped}
+use Rattle.pdb_column.specs.inner.Changes.{IsDropped, IsHeldAt, IsHit}
 use Rattle.pdb_column.specs.inner.KeyChunks.{HasKeyChunk, IsEntryOf}
 use Rattle.pdb_column.specs.inner.Steps.{with_under}
 use Rattle.pdb_column.proofs.Cases.{same_or, set_there}

@@ -1,10 +1,10 @@
 -- A key's chunk, as it is read and in the picture that the cells spell.
-use Rattle.std.proofs.Common.{◌≡◌, ◌≢◌, ◌⊎◌, ◌∷◌, [], ◌<◌, ◌≤◌, ◌^◌, ℕ, List, All, Any, Some, length, take, refl, sym, ap, subst, ◌∙◌, arith, inl, inr}
+use Rattle.std.proofs.Common.{◌≡◌, ◌≢◌, ◌⊎◌, ◌∷◌, [], ◌<◌, ◌≤◌, ◌^◌, ℕ, List, Any, Some, length, refl, sym, ap, subst, ◌∙◌, arith, inl, inr}
 use Rattle.std.proofs.Math.Nat.{mod-lt}
 use Rattle.std.proofs.Math.Pow.{pow_mono}
 use Rattle.std.proofs.lemmas.Nat.{pow_pos}
 use Rattle.std.proofs.lemmas.Option.{slice_get-get_or}
-use Rattle.std.specs.Prelude.{slice_get, slice_index_or}
+use Rattle.std.specs.Prelude.{slice_get}
 use Rattle.sdb_base.specs.Content.{Counted}
 use Rattle.pdb_cells.specs.Content.{Content}
 use Rattle.pdb_cells.specs.Sizes.{head_file}
@@ -13,14 +13,14 @@ use Rattle.pdb_model.specs.Breaks.{IsBrokenHead}
 use Rattle.pdb_model.specs.Chunks.{CarriesKey, IsChunk, IsIndexEntry, chunk_bytes, chunk_number, entry_slot, entry_tier}
 use Rattle.pdb_model.specs.Columns.{Column, HasEntry, Place, end_of, held_by}
 use Rattle.pdb_model.specs.Files.{head_cell, index_file}
-use Rattle.pdb_model.specs.Heads.{Ends, Head, IsHead, IsHeadCell, SpellsHead, ends_at, ends_bytes}
+use Rattle.pdb_model.specs.Heads.{Ends, Head, IsHead, IsHeadCell, SpellsHead}
 use Rattle.pdb_model.specs.Tables.{Held, first, held}
 use Rattle.pdb_value.specs.Faults.{FaultSays, NoCell, NoTier}
 use Rattle.pdb_value.specs.declared.fault.ValueFault.{ValueFault}
 use Rattle.pdb_value.specs.declared.fault.ValueFault.TheVariants.{Damaged, Disk, OutOfMemory, TierFull}
 use Rattle.pdb_value.proofs.HeadCells.{said_is}
 use Rattle.pdb_value.proofs.Sound.{first_within, same_or}
-use Rattle.pdb_column.specs.Damages.{BreaksColumn, HasChunk, HasOtherIndex}
+use Rattle.pdb_column.specs.Damages.{BreaksColumn, HasOtherIndex}
 use Rattle.pdb_column.specs.Holding.{HoldsColumn}
 use Rattle.pdb_column.specs.Maps.{ColumnMap}
 use Rattle.pdb_column.specs.inner.KeyChunks.{HasKeyChunk, IsEntryOf, IsFixedHead, IsNoEntryOf, NamesHeld}

@@ -1,25 +1,24 @@
 -- A key is located, and its value counted up, written over, or left.
-use Rattle.std.proofs.Common.{◌≡◌, ◌≢◌, ◌⊎◌, ◌+◌, ◌==◌, ◌^◌, ◌<◌, ◌≤◌, if◌then◌else◌, All, MatchOption, IfSome, ℕ, List, OnOk, Option, Result, Ok, Err, Some, None, length, refl, sym, ap, subst, ◌∙◌, arith, inl, inr}
+use Rattle.std.proofs.Common.{◌≡◌, ◌≢◌, ◌<◌, ◌≤◌, if◌then◌else◌, All, MatchOption, IfSome, ℕ, List, OnOk, Option, Result, Ok, Err, Some, None, refl, sym, ap, subst, ◌∙◌, arith}
 use Rattle.std.proofs.lemmas.List.Elements.{All-get_or}
 use Rattle.std.proofs.lemmas.Option.{get_or_from_slice_get, slice_get_within}
 use Rattle.std.specs.Prelude.{slice_get}
-use Rattle.std.specs.Str.{bytes_eq}
 use Rattle.sdb_base.specs.Content.{Counted, count_up, with_reference, without_reference}
 use Rattle.pdb_cells.specs.Content.{Content}
 use Rattle.pdb_cells.specs.Puts.{drafted}
 use Rattle.pdb_cells.specs.declared.puts.Put.{Put}
-use Rattle.pdb_model.specs.Chunks.{IsChunk, chunk_number, entry_slot, entry_tier}
+use Rattle.pdb_model.specs.Chunks.{IsChunk, entry_slot, entry_tier}
 use Rattle.pdb_model.specs.Columns.{Column}
 use Rattle.pdb_model.specs.Files.{OnlyTable, head_cell}
 use Rattle.pdb_model.specs.Heads.{IsHeadCell}
-use Rattle.pdb_model.specs.Tables.{Held, Table, holding, recounted}
-use Rattle.pdb_value.specs.Faults.{FaultSays, HasTable, IsFullTier, NoCell, NoTier}
+use Rattle.pdb_model.specs.Tables.{Held, holding, recounted}
+use Rattle.pdb_value.specs.Faults.{FaultSays, HasTable, NoTier}
 use Rattle.pdb_value.specs.Values.{BreaksValue}
 use Rattle.pdb_value.specs.declared.fault.ValueFault.{ValueFault}
 use Rattle.pdb_value.proofs.Broken.{says_more}
 use Rattle.pdb_column.specs.Damages.{BreaksColumn}
 use Rattle.pdb_column.specs.Holding.{HoldsColumn}
-use Rattle.pdb_column.specs.Maps.{ColumnMap, IsCrowded}
+use Rattle.pdb_column.specs.Maps.{ColumnMap}
 use Rattle.pdb_column.specs.declared.fault.StepFault.{StepFault}
 use Rattle.pdb_column.specs.declared.fault.StepFault.TheVariants.{ChunkFull, Value}
 use Rattle.pdb_column.specs.inner.Changes.{IsChanged, IsDropped, IsHeldAt, IsHit, dropped}
@@ -28,8 +27,8 @@ use Rattle.pdb_column.specs.inner.KeyChunks.{HasKeyChunk, HaveTiers}
 use Rattle.pdb_column.specs.inner.Steps.{with_under}
 use Rattle.pdb_column.proofs.Cases.{same_key_or}
 use Rattle.pdb_column.proofs.Cells.{table_held}
-use Rattle.pdb_column.proofs.Hits.{held_entry, one_counted, recounted_held}
-use Rattle.pdb_column.proofs.KeyChunks.{IsIn, entry_in, in_picture, place_of}
+use Rattle.pdb_column.proofs.Hits.{held_entry, recounted_held}
+use Rattle.pdb_column.proofs.KeyChunks.{entry_in, in_picture, place_of}
 use Rattle.pdb_column.proofs.OneColumn.{column_from_table, column_itself, column_on, same_content}
 use Rattle.pdb_column.proofs.Overwriting.{overwriting}
 use Rattle.pdb_column.proofs.Read.{value_breaks}

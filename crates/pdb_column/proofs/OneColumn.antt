@@ -1,9 +1,8 @@
 -- Which cells a step in a column changes, and that the other column stays.
-use Rattle.std.proofs.Common.{◌≡◌, ◌≢◌, ◌⊎◌, ◌+◌, ◌*◌, ◌-◌, ◌%◌, ◌^◌, ◌<◌, ◌≤◌, ℕ, List, Some, refl, sym, ap, subst, ◌∙◌, arith, inl, inr}
+use Rattle.std.proofs.Common.{◌≡◌, ◌⊎◌, ◌+◌, ◌*◌, ◌-◌, ◌<◌, ℕ, List, refl, sym, ap, subst, ◌∙◌, arith, inl, inr}
 use Rattle.std.proofs.lemmas.Bool.{cases_lt}
 use Rattle.pdb_cells.specs.Content.{Content, put_cell}
 use Rattle.pdb_cells.specs.Sizes.{head_file}
-use Rattle.pdb_model.specs.Chunks.{chunk_bytes}
 use Rattle.pdb_model.specs.Columns.{Column, SpellsColumn, SpellsIndex}
 use Rattle.pdb_model.specs.Files.{OnlyTable, head_cell, index_file, table_cells, table_file}
 use Rattle.pdb_model.specs.Heads.{SpellsHead, ends_at}

@@ -1,8 +1,7 @@
 -- What both columns hold after operations.
-use Rattle.std.proofs.Common.{◌≡◌, ◌≢◌, ◌⊎◌, ◌∷◌, [], ◌++◌, ◌+◌, ◌==◌, ◌<◌, ◌≤◌, if◌then◌else◌, ℕ, suc, List, Option, Result, Some, None, Ok, Err, false, true, length, take, drop, get_or, refl, sym, ap, subst, ◌∙◌, arith, inl, inr}
+use Rattle.std.proofs.Common.{◌≡◌, ◌⊎◌, ◌∷◌, [], ◌++◌, ◌<◌, ◌≤◌, if◌then◌else◌, ℕ, suc, List, Option, Some, None, Err, length, take, drop, get_or, refl, sym, ap, subst, ◌∙◌, arith, inl, inr}
 use Rattle.std.proofs.Math.Seq.{drop-cons}
-use Rattle.std.proofs.lemmas.List.{take-append-drop, take_more}
-use Rattle.std.specs.Str.{bytes_eq}
+use Rattle.std.proofs.lemmas.List.{take-append-drop}
 use Rattle.sdb_base.specs.Content.{Counted, count_down, node_after, with_reference, without_reference}
 use Rattle.sdb_base.specs.declared.node.NodeHash.{NodeHash}
 use Rattle.sdb_base.specs.declared.op.Op.{Op}
@@ -11,8 +10,7 @@ use Rattle.sdb_blake2.specs.Blake2b.{H}
 use Rattle.pdb_cells.specs.Content.{Content}
 use Rattle.pdb_cells.specs.Puts.{drafted, laid}
 use Rattle.pdb_cells.specs.declared.puts.Put.{Put as CellPut}
-use Rattle.pdb_model.specs.Chunks.{chunk_number}
-use Rattle.pdb_value.specs.Faults.{FaultSays, IsFullTier, NoCell, NoTier, disk_fails}
+use Rattle.pdb_value.specs.Faults.{FaultSays, IsFullTier, NoCell, NoTier}
 use Rattle.pdb_value.specs.declared.fault.ValueFault.{ValueFault}
 use Rattle.pdb_value.specs.declared.fault.ValueFault.TheVariants.{Damaged, Disk, OutOfMemory, TierFull}
 use Rattle.pdb_column.specs.Answers.{PlanSays, plan_disk_fails}

@@ -1,10 +1,10 @@
 -- Faults of reads, as those of a column.
-use Rattle.std.proofs.Common.{◌≡◌, ◌≢◌, ◌⊎◌, ◌<◌, ◌≤◌, ℕ, Some, None, Option, Ok, Err, Result, true, false, refl, sym, ap, subst, ◌∙◌, arith, inl, inr}
+use Rattle.std.proofs.Common.{◌≡◌, ◌≢◌, ◌≤◌, ℕ, Some, None, Option, Err, true, false, refl, sym, subst, ◌∙◌, arith, inl, inr}
 use Rattle.std.specs.Prelude.{List, Bool}
 use Rattle.sdb_base.specs.Content.{Counted}
 use Rattle.pdb_cells.specs.Content.{Content}
 use Rattle.pdb_model.specs.Breaks.{IsBrokenHead}
-use Rattle.pdb_value.specs.Faults.{FaultSays, NoCell, NoTier, disk_fails}
+use Rattle.pdb_value.specs.Faults.{FaultSays, NoTier, disk_fails}
 use Rattle.pdb_model.specs.Tables.{Held}
 use Rattle.pdb_value.specs.Values.{BreaksValue, IsReadOf}
 use Rattle.pdb_value.specs.declared.fault.ValueFault.{ValueFault}

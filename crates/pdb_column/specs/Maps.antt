@@ -1,5 +1,5 @@
 -- What a column holds under keys of 32 bytes, and what operations make of it. A plain key stands as its hash.
-use Rattle.std.specs.Prelude.{◌≡◌, ◌==◌, ◌<◌, ℕ, List, [], ◌∷◌, ◌++◌, length, Option, Some, None, IfSome, if◌then◌else◌}
+use Rattle.std.specs.Prelude.{◌≡◌, ◌==◌, ◌<◌, ℕ, List, [], ◌∷◌, ◌++◌, length, Option, Some, None, if◌then◌else◌}
 use Rattle.std.specs.Str.{bytes_eq}
 use Rattle.sdb_base.specs.Content.{Counted, node_after}
 use Rattle.sdb_base.specs.declared.op.Op.{Op}

@@ -1,5 +1,5 @@
 -- What a step does with a column's cells, and where it finds a key's value.
-use Rattle.std.specs.Prelude.{◌≡◌, ◌≢◌, ◌⊎◌, ◌<◌, ◌≤◌, ◌+◌, ◌*◌, ℕ, Bool, true, false, List, All, Option, Some, None, slice_get}
+use Rattle.std.specs.Prelude.{◌≡◌, ◌≢◌, ◌⊎◌, ◌<◌, ◌+◌, ◌*◌, ℕ, Bool, true, false, List, Option, Some, slice_get}
 use Rattle.sdb_base.specs.Content.{Counted, without_reference}
 use Rattle.pdb_cells.specs.Content.{Content}
 use Rattle.pdb_cells.specs.Sizes.{head_file}
@@ -7,7 +7,7 @@ use Rattle.pdb_model.specs.Chunks.{CarriesKey, entry_slot, entry_tier}
 use Rattle.pdb_model.specs.Columns.{Column}
 use Rattle.pdb_model.specs.Tables.{Held, held}
 use Rattle.pdb_column.specs.Holding.{HoldsColumn}
-use Rattle.pdb_column.specs.Maps.{ColumnMap, IsCrowded}
+use Rattle.pdb_column.specs.Maps.{ColumnMap}
 use Rattle.pdb_column.specs.inner.KeyChunks.{HasKeyChunk}
 use Rattle.pdb_column.specs.inner.Steps.{with_under}
 

@@ -1,5 +1,5 @@
 -- The faults of calls on values, and of steps of a plan, as those of calls on a column.
-use Rattle.std.specs.Prelude.{ℕ, Bool, true, false, Result, Ok, Err}
+use Rattle.std.specs.Prelude.{ℕ, Bool, false, Result, Ok, Err}
 use Rattle.pdb_value.specs.Faults.{FaultSays, disk_fails}
 use Rattle.pdb_value.specs.declared.fault.ValueFault.{ValueFault}
 use Rattle.pdb_value.specs.declared.fault.ValueFault.TheVariants as value

@@ -1,4 +1,4 @@
-use Rattle.std.proofs.Common.{◌≡◌, ◌≤◌, ℕ, take, length, refl, sym, arith}
+use Rattle.std.proofs.Common.{◌≤◌, ℕ, take, refl, sym, arith}
 use Rattle.std.proofs.lemmas.List.{take_all}
 use Rattle.std.proofs.lemmas.List.Elements.{All-more, All-same}
 use Rattle.pdb_model.specs.Chunks.{entry_tier}

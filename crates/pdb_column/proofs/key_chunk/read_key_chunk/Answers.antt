@@ -1,6 +1,5 @@
-use Rattle.std.proofs.Common.{◌≡◌, ℕ, List, Any, refl, sym, ap, subst, ◌∙◌, arith, inl, inr}
+use Rattle.std.proofs.Common.{ℕ, List, Any, sym, subst, inl, inr}
 use Rattle.pdb_cells.specs.Sizes.{head_file}
-use Rattle.pdb_model.specs.Chunks.{chunk_number}
 use Rattle.pdb_model.specs.Files.{index_file}
 use Rattle.pdb_column.specs.Damages.{BreaksColumn, HasOtherIndex}
 use Rattle.pdb_column.specs.inner.KeyChunks.{HasKeyChunk, IsNoEntryOf}

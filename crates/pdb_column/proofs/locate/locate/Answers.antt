@@ -1,7 +1,6 @@
-use Rattle.std.proofs.Common.{◌<◌, ◌≤◌, sym, ◌∙◌}
+use Rattle.std.proofs.Common.{sym, ◌∙◌}
 use Rattle.std.proofs.lemmas.Option.{IfSome_then}
 use Rattle.std.proofs.lemmas.Result.{err_from_is_err_and}
-use Rattle.pdb_column.specs.inner.Changes.{IsHit}
 use Rattle.pdb_column.proofs.KeyChunks.{in_picture}
 use Rattle.pdb_column.proofs.Located.{hit_range}
 use Rattle.pdb_column.proofs.locate.locate.Goals as goal

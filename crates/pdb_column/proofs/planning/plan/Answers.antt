@@ -1,4 +1,4 @@
-use Rattle.std.proofs.Common.{◌≡◌, ◌∷◌, [], ◌++◌, ◌+◌, ◌<◌, ◌≤◌, ℕ, suc, List, take, drop, length, refl, sym, ap, subst, ◌∙◌, arith}
+use Rattle.std.proofs.Common.{◌≡◌, ◌∷◌, [], ◌++◌, ◌+◌, ◌≤◌, ℕ, suc, List, take, drop, refl, sym, ap, subst, ◌∙◌, arith}
 use Rattle.std.proofs.lemmas.List.{take_all, take_more}
 use Rattle.sdb_base.specs.declared.op.Op.{Op}
 use Rattle.pdb_cells.specs.Content.{Content}
@@ -6,7 +6,7 @@ use Rattle.pdb_value.specs.Faults.{Drafts, IsFullTier}
 use Rattle.pdb_column.specs.Answers.{PlanSays}
 use Rattle.pdb_column.specs.Damages.{BreaksColumn, IsFullChunk}
 use Rattle.pdb_column.specs.Holding.{HoldsColumns}
-use Rattle.pdb_column.specs.Maps.{ColumnMap, FillsChunk, column_from}
+use Rattle.pdb_column.specs.Maps.{FillsChunk, column_from}
 use Rattle.pdb_column.specs.inner.Faults.{as_planned}
 use Rattle.pdb_column.specs.inner.Operations.{column_of}
 use Rattle.pdb_column.proofs.Planned.{column_low, more_fill, more_hold, none_fills, plan_says, plan_sound, split_at, still_drafted}

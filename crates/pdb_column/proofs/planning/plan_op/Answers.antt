@@ -1,7 +1,6 @@
-use Rattle.std.proofs.Common.{◌≡◌, ◌≤◌, ℕ, IfErr, OnOk, None, refl, sym, ap, subst, ◌∙◌, arith}
+use Rattle.std.proofs.Common.{◌≡◌, IfErr, refl, sym, ap, subst, ◌∙◌, arith}
 use Rattle.std.proofs.lemmas.Result.{IfErr-weaker, err_from_is_err_and, on_ok_weaker}
-use Rattle.sdb_base.specs.declared.op.Op.{Op}
-use Rattle.sdb_base.specs.declared.op.Op.TheVariants.{AddRef, DropRef, Erase, Put}
+use Rattle.sdb_base.specs.declared.op.Op.TheVariants.{AddRef, Put}
 use Rattle.sdb_blake2.specs.Blake2b.{H}
 use Rattle.pdb_cells.specs.Content.{Content}
 use Rattle.pdb_value.specs.Faults.{Drafts, IsFullTier, NoCell}

@@ -1,9 +1,8 @@
-use Rattle.std.proofs.Common.{◌≡◌, ◌<◌, ◌≤◌, ℕ, List, refl, sym, ap, subst, ◌∙◌, arith}
+use Rattle.std.proofs.Common.{◌≡◌, ◌<◌, refl, sym, subst, ◌∙◌, arith}
 use Rattle.std.proofs.lemmas.Result.{err_from_is_err_and}
 use Rattle.pdb_cells.specs.Content.{Content}
 use Rattle.pdb_model.specs.Files.{OnlyTable, head_cell}
 use Rattle.pdb_model.specs.Heads.{IsHeadCell}
-use Rattle.pdb_model.specs.Tables.{Held}
 use Rattle.pdb_value.specs.Faults.{Drafts}
 use Rattle.pdb_column.proofs.Cells.{chunk_kept, chunk_put, chunk_set}
 use Rattle.pdb_column.proofs.Hits.{all_entries, fewer_dropped, last_dropped, one_draft, up_to_end}

@@ -1,15 +1,12 @@
-use Rattle.std.proofs.Common.{◌≡◌, ◌<◌, ◌≤◌, ℕ, Some, None, All, refl, sym, ap, subst, ◌∙◌, arith}
+use Rattle.std.proofs.Common.{◌≡◌, ◌<◌, None, refl, sym, ap, subst, ◌∙◌, arith}
 use Rattle.std.proofs.lemmas.Result.{IfErr-weaker, err_from_is_err_and, on_ok_weaker}
 use Rattle.sdb_base.specs.Content.{with_reference}
 use Rattle.pdb_cells.specs.Content.{Content}
-use Rattle.pdb_model.specs.Chunks.{chunk_number}
 use Rattle.pdb_model.specs.Tables.{recounted}
 use Rattle.pdb_value.specs.Faults.{Drafts, HasTable, IsFullTier, NoCell, NoTier}
-use Rattle.pdb_column.specs.Damages.{BreaksColumn}
 use Rattle.pdb_column.specs.Holding.{HoldsColumn}
 use Rattle.pdb_column.specs.Maps.{IsCrowded}
-use Rattle.pdb_column.specs.inner.Changes.{IsHeldAt, IsHit}
-use Rattle.pdb_column.specs.inner.Faults.{AnyTier, StepSays}
+use Rattle.pdb_column.specs.inner.Faults.{AnyTier}
 use Rattle.pdb_column.proofs.Entered.{place_sound}
 use Rattle.pdb_column.proofs.Hits.{one_draft}
 use Rattle.pdb_column.proofs.KeyChunks.{keeps_head}

@@ -1,7 +1,6 @@
-use Rattle.std.proofs.Common.{◌≡◌, ◌<◌, ◌≤◌, ℕ, None, refl, sym, ap, subst, ◌∙◌}
+use Rattle.std.proofs.Common.{◌≡◌, None, refl, sym, subst}
 use Rattle.std.proofs.lemmas.Result.{err_from_is_err_and, on_ok_weaker}
 use Rattle.pdb_column.specs.Holding.{HoldsColumn}
-use Rattle.pdb_column.specs.inner.Changes.{IsHeldAt, IsHit}
 use Rattle.pdb_column.proofs.Located.{changed_as, if_some_at, none_at, some_at, unchanged}
 use Rattle.pdb_column.proofs.steps.drop_key.Goals as goal
 
