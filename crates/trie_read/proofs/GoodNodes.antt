@@ -30,7 +30,7 @@ use Rattle.trie_read.proofs.Sound.{Sound, are_nibbles, length-hash, nibbles_in, 
 use Rattle.trie_read.proofs.Stored.{stored_hang}
 
 -- the root's path, or one that some suffixes go on with
-abbrev IsThere : List Suffix → List ℕ → Type 0
+abbrev pub IsThere : List Suffix → List ℕ → Type 0
 IsThere ss p = (p ≡ []) ⊎ (below p ss ≡ [] → ⊥)
 
 -- ---- the path and the partial key
@@ -140,13 +140,17 @@ not_empty ss s p (inr some) =
     and_not true y e = e
     and_not false y e = refl
 
+-- where it hangs the node over the suffixes that go on with a path isn't bad
+pub good_there : (ss : List Suffix) → Sound ss → (p : List ℕ) → IsThere ss p → is_bad_node (length p) (spelling (node_at ss p)) ≡ false
+good_there ss s p there =
+    let read : node_of_bytes (spelling (node_at ss p)) ≡ Ok (node_at ss p) = whole_read (node_at ss p) (node_sound (below p ss) (sound_below p ss s)) in
+    ap (deep_or_empty (length p) (spelling (node_at ss p))) read
+    ∙ ap (λ b. b || (nat_lt 0 (length p) && is_nothing (spelling (node_at ss p)))) (not_deep 33 ss s p there) ∙ not_empty ss s p there
+
 pub good : (m : State) (n : PathNode) → All IsEntry (entries m) → Contains (stored_nodes m) n → is_bad_node (length n.path) n.bytes ≡ false
 good m n within c =
     let ss : List Suffix = suffixes_of m in
     let s : Sound ss = sound_state m within in
-    let p : List ℕ = n.path in
     let hung : IsHung ss n = ((stored_hang ss n (are_nibbles ss s)).0 c).0 in
-    let there : IsThere ss p = elim hung.path [ inl root ↦ inl root | inr at ↦ inr at.4 ] in
-    let read : node_of_bytes (spelling (node_at ss p)) ≡ Ok (node_at ss p) = whole_read (node_at ss p) (node_sound (below p ss) (sound_below p ss s)) in
-    ap (is_bad_node (length p)) hung.bytes ∙ ap (deep_or_empty (length p) (spelling (node_at ss p))) read
-    ∙ ap (λ b. b || (nat_lt 0 (length p) && is_nothing (spelling (node_at ss p)))) (not_deep 33 ss s p there) ∙ not_empty ss s p there
+    let there : IsThere ss n.path = elim hung.path [ inl root ↦ inl root | inr at ↦ inr at.4 ] in
+    ap (is_bad_node (length n.path)) hung.bytes ∙ good_there ss s n.path there

@@ -30,3 +30,4 @@ pub mod SearchEnds
 pub mod SearchBegins
 pub mod PartsOfChildren
 pub mod GoodNodes
+pub mod OwnNodes

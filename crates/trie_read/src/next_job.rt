@@ -31,6 +31,7 @@ impl NextJob {
     ghost use Rattle.trie_read.specs.Depth.{is_bad_node};
     ghost use Rattle.trie_read.specs.Reads.{MatchFault};
     ghost use Rattle.trie_read.specs.Searches.{IsSeeking, search_depth, search_wanted};
+    ghost use Rattle.trie_read.specs.declared.fault.TrieFault.TheVariants.{OutOfMemory};
 
     /// A search for the least key above a key in the state of that root.
     pub fn new(alloc: Global, root: NodeHash, key: Bytes) -> Result<NextJob, OutOfMemory>
@@ -66,6 +67,8 @@ impl NextJob {
         ensures err { OnErr result (self.new ≡ self.old) }
         ensures fault { IfErr result (λ f. MatchFault f (is_bad_node (search_depth self.old) bytes.now ≡ true)
             (is_bad_node (search_depth self.old) bytes.now ≡ false) (search_wanted self.old)) }
+        ensures sound { (m : State) (key : List ℕ) (n : PathNode) (todo : List PathNode) → IsSeeking self.old m key (n ∷ todo)
+            → bytes.now ≡ n.bytes → IfErr result (λ f. f ≡ OutOfMemory) }
     {
         let Some(wanted) = &self.wanted else {
             unreachable!()

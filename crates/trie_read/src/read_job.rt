@@ -29,6 +29,7 @@ impl ReadJob {
     ghost use Rattle.trie_root.specs.Suffixes.{IsEntry};
     ghost use Rattle.trie_read.specs.Depth.{is_bad_node};
     ghost use Rattle.trie_read.specs.Reads.{IsReading, MatchFault, nibbles_before, wanted_of};
+    ghost use Rattle.trie_read.specs.declared.fault.TrieFault.TheVariants.{OutOfMemory};
 
     /// A read of a key of the state of that root.
     pub fn new(alloc: Global, root: NodeHash, key: Bytes) -> Result<ReadJob, OutOfMemory>
@@ -60,6 +61,8 @@ impl ReadJob {
         ensures err { OnErr result (self.new ≡ self.old) }
         ensures fault { IfErr result (λ f. MatchFault f (is_bad_node (nibbles_before self.old) bytes.now ≡ true)
             (is_bad_node (nibbles_before self.old) bytes.now ≡ false) (wanted_of self.old)) }
+        ensures sound { (m : State) (key : List ℕ) (n : PathNode) (todo : List PathNode) → IsReading self.old m key (n ∷ todo)
+            → bytes.now ≡ n.bytes → IfErr result (λ f. f ≡ OutOfMemory) }
     {
         let Some(hash) = self.wanted else {
             unreachable!()

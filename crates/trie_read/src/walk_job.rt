@@ -30,6 +30,7 @@ impl WalkJob {
     ghost use Rattle.trie_read.specs.Depth.{is_bad_node};
     ghost use Rattle.trie_read.specs.Reads.{MatchFault};
     ghost use Rattle.trie_read.specs.Walks.{IsWalking, walk_depth, walk_wanted};
+    ghost use Rattle.trie_read.specs.declared.fault.TrieFault.TheVariants.{OutOfMemory};
 
     /// A walk over the keys with a prefix of the state of that root.
     pub fn new(alloc: Global, root: NodeHash, prefix: Bytes) -> Result<WalkJob, OutOfMemory>
@@ -66,6 +67,8 @@ impl WalkJob {
         ensures err { OnErr result (self.new ≡ self.old) }
         ensures fault { IfErr result (λ f. MatchFault f (is_bad_node (walk_depth self.old) bytes.now ≡ true)
             (is_bad_node (walk_depth self.old) bytes.now ≡ false) (walk_wanted self.old)) }
+        ensures sound { (m : State) (prefix : List ℕ) (n : PathNode) (todo : List PathNode) → IsWalking self.old m prefix (n ∷ todo)
+            → bytes.now ≡ n.bytes → IfErr result (λ f. f ≡ OutOfMemory) }
     {
         let Some(wanted) = &self.wanted else {
             unreachable!()

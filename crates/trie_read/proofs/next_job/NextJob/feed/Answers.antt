@@ -4,10 +4,12 @@ use Rattle.trie_codec.specs.NodeParts.{node_of_ref}
 use Rattle.trie_codec.specs.Reading.{node_of_bytes}
 use Rattle.trie_model.specs.Node.{Node}
 use Rattle.trie_model.specs.Nodes.{PathNode}
+use Rattle.trie_read.specs.Depth.{is_bad_node}
 use Rattle.trie_read.specs.inner.Parts.{OfNode, Piece, as_pieces, behind_it, first_two_of, in_front, is_above, leads_above, parts_in, after_two_of}
 use Rattle.trie_read.specs.declared.next_job.NextJob.{NextJob}
 use Rattle.trie_read.specs.declared.parts.Part.{Part}
 use Rattle.trie_read.specs.declared.parts.Stored.{Stored}
+use Rattle.trie_read.proofs.OwnNodes.{good_for_search, not_refused}
 use Rattle.trie_read.proofs.SearchEnds.{search_stage}
 use Rattle.trie_read.proofs.Seeking.{Seeks, searched, seeks_as}
 use Rattle.trie_read.proofs.next_job.NextJob.feed.Goals as goal
@@ -44,3 +46,8 @@ returns-clause-sought c = λ m key n todo seeking bytes.
       wants = seeks.wants;
       stage = search_stage new m key seeking.within others after.0 todo seeks c.first_of-wanted.ensures.settled;
     }
+
+pub returns-in_default-read_at-clause-sound : goal.returns-in_default-read_at-clause-sound
+returns-in_default-read_at-clause-sound c = λ m key n todo waits bytes.
+    let good = good_for_search c.args.self.now c.in-Some.wanted m key n todo c.args.bytes.now c.in-Some.is waits bytes in
+    absurd (not_refused (is_bad_node c.len.result c.args.bytes.now) (ap (λ (at : ℕ). is_bad_node at c.args.bytes.now) c.len.ensures.value ∙ good) c.in_default-read_at.ensures.good)

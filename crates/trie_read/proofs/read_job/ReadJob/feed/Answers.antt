@@ -5,10 +5,12 @@ use Rattle.trie_codec.specs.Reading.{node_of_bytes}
 use Rattle.trie_codec.specs.Slices.{bytes_in}
 use Rattle.trie_model.specs.Node.{Node}
 use Rattle.trie_model.specs.Trie.{suffixes_of}
+use Rattle.trie_read.specs.Depth.{is_bad_node}
 use Rattle.trie_read.specs.Reads.{WaitsFor}
 use Rattle.trie_read.specs.inner.Descent.{Ended, Outcome, Wants, way_down}
 use Rattle.trie_read.specs.inner.Following.{IsFollowed}
 use Rattle.trie_read.proofs.NextStage.{ended_stage, next, wants_stage}
+use Rattle.trie_read.proofs.OwnNodes.{good_for_read, not_refused}
 use Rattle.trie_read.proofs.read_job.ReadJob.feed.Goals as goal
 
 pub returns-in-Ok-clause-read : goal.returns-in-Ok-clause-read
@@ -45,3 +47,8 @@ returns-in-Wants-clause-read c = λ m key n todo reading bytes.
       stage = wants_stage (record { alloc = j.alloc; key = j.key; at = c.in-Wants.at; wanted = Some (record { 0 = c.hash_of.result }); value = j.value; fits = _ }) m todo c.in-Wants.hash.now (ap Some c.hash_of.ensures)
           (subst (λ (o : Outcome). IsFollowed (suffixes_of m) ns o todo) (sym is) f);
     }
+
+pub returns-in_default-read_at-clause-sound : goal.returns-in_default-read_at-clause-sound
+returns-in_default-read_at-clause-sound c = λ m key n todo reading bytes.
+    let j = c.args.self.now in
+    absurd (not_refused (is_bad_node j.at c.args.bytes.now) (good_for_read j m key n todo c.args.bytes.now reading bytes) c.in_default-read_at.ensures.good)

@@ -5,12 +5,14 @@ use Rattle.trie_codec.specs.Reading.{node_of_bytes}
 use Rattle.trie_model.specs.Fetches.{keys_with_prefix}
 use Rattle.trie_model.specs.Node.{Node}
 use Rattle.trie_model.specs.Trie.{suffixes_of}
+use Rattle.trie_read.specs.Depth.{is_bad_node}
 use Rattle.trie_read.specs.inner.Parts.{OfKey, Piece, StandFor, goes_on_with, in_order, is_near, parts_in, as_pieces}
 use Rattle.trie_read.specs.declared.parts.Stored.{Stored}
 use Rattle.trie_read.specs.declared.walk_job.WalkJob.{WalkJob}
 use Rattle.trie_read.proofs.Binding.{sound_state}
 use Rattle.trie_read.proofs.KeysInNibbles.{near_closed}
 use Rattle.trie_read.proofs.OneFed.{one_fed}
+use Rattle.trie_read.proofs.OwnNodes.{good_for_walk, not_refused}
 use Rattle.trie_read.proofs.WalkStages.{stage_of}
 use Rattle.trie_read.proofs.walk_job.WalkJob.feed.Goals as goal
 
@@ -37,3 +39,8 @@ returns-clause-walked c = λ m prefix n todo walking bytes.
       stands = stands;
       stage = stage_of new m (goes_on_with q) (is_near q) keys todo stands c.in-Ok-go_on.ensures.last;
     }
+
+pub returns-in_default-read_at-clause-sound : goal.returns-in_default-read_at-clause-sound
+returns-in_default-read_at-clause-sound c = λ m prefix n todo waits bytes.
+    let good = good_for_walk c.args.self.now c.in-Some.wanted m prefix n todo c.args.bytes.now c.in-Some.is waits bytes in
+    absurd (not_refused (is_bad_node c.len.result c.args.bytes.now) (ap (λ (at : ℕ). is_bad_node at c.args.bytes.now) c.len.ensures.value ∙ good) c.in_default-read_at.ensures.good)
