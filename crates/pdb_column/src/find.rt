@@ -68,11 +68,14 @@ pub(crate) fn find<C: Cells>(
     ensures counted { CountsFault (disk_fails result) (C.fault_count c.old) (C.fault_count c.new) }
     ensures stays { (cells : Content) → C.seen c.old ≡ Some cells → C.seen c.new ≡ Some cells }
     ensures hit { IfOk result (λ found. IfSome found (λ hit. IsHit chunk.now.entries.items hit.place hit.at.tier hit.at.slot)) }
-    ensures found { (cells : Content) (base : ℕ) (content : ColumnMap) → C.seen c.old ≡ Some cells → (holds : HoldsColumn cells column base content)
+    ensures found { (cells : Content) (base : ℕ) (content : ColumnMap) → C.seen c.old ≡ Some cells
+        → (holds : HoldsColumn cells column base content)
         → HasKeyChunk cells column key.now chunk.now.base chunk.now.entries.items
-        → IfOk result (λ found. MatchOption found (content key.now ≡ None) (λ hit. IsHeldAt holds.picture content key.now hit.at.tier hit.at.slot)) }
+        → IfOk result (λ found. MatchOption found (content key.now ≡ None)
+        (λ hit. IsHeldAt holds.picture content key.now hit.at.tier hit.at.slot)) }
     ensures faults { (cells : Content) → C.seen c.old ≡ Some cells → IfErr result (FaultSays (BreaksColumn cells column) NoTier) }
-    ensures sound { (cells : Content) (base : ℕ) (content : ColumnMap) → C.seen c.old ≡ Some cells → HoldsColumn cells column base content
+    ensures sound { (cells : Content) (base : ℕ) (content : ColumnMap) → C.seen c.old ≡ Some cells
+        → HoldsColumn cells column base content
         → HasKeyChunk cells column key.now chunk.now.base chunk.now.entries.items → IfErr result (FaultSays NoCell NoTier) }
 {
     let base = chunk.base;

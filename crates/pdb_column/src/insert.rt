@@ -47,19 +47,23 @@ pub(crate) fn insert<C: Cells>(
     ensures keeps { C.same d.old.under.now d.new.under.now }
     ensures counted { CountsFault (step_disk_fails result) (C.fault_count d.old.under.now) (C.fault_count d.new.under.now) }
     ensures inserted { (cells : Content) (content : ColumnMap) → Drafts d.old.puts (C.seen d.old.under.now) cells
-        → HoldsColumn cells column chunk.old.base content → HasKeyChunk cells column key.now chunk.old.base chunk.old.entries.items → content key.now ≡ None
+        → HoldsColumn cells column chunk.old.base content
+        → HasKeyChunk cells column key.now chunk.old.base chunk.old.entries.items → content key.now ≡ None
         → OnOk result ((after : Content) × Drafts d.new.puts (C.seen d.new.under.now) after
         × IsChanged column chunk.old.base content key.now (Some (record { count = 1; bytes = bytes.now })) cells after) }
     ensures uncrowded { (cells : Content) (content : ColumnMap) → Drafts d.old.puts (C.seen d.old.under.now) cells
-        → HoldsColumn cells column chunk.old.base content → HasKeyChunk cells column key.now chunk.old.base chunk.old.entries.items
+        → HoldsColumn cells column chunk.old.base content
+        → HasKeyChunk cells column key.now chunk.old.base chunk.old.entries.items
         → OnOk result (IsCrowded content chunk.old.base key.now → ⊥) }
     ensures sound { (cells : Content) (content : ColumnMap) → Drafts d.old.puts (C.seen d.old.under.now) cells
-        → HoldsColumn cells column chunk.old.base content → HasKeyChunk cells column key.now chunk.old.base chunk.old.entries.items
+        → HoldsColumn cells column chunk.old.base content
+        → HasKeyChunk cells column key.now chunk.old.base chunk.old.entries.items
         → IfErr result (StepSays NoCell AnyTier (λ bits n. (bits ≡ chunk.old.base) × (n ≡ chunk_number bits key.now)
         × IsCrowded content bits key.now × All (λ e. e ≢ 0) chunk.old.entries.items)) }
     ensures faults { (cells : Content) → Drafts d.old.puts (C.seen d.old.under.now) cells
         → HasKeyChunk cells column key.now chunk.old.base chunk.old.entries.items
-        → IfErr result (StepSays (λ file cell. (after : Content) × Drafts d.new.puts (C.seen d.new.under.now) after × BreaksColumn after column file cell)
+        → IfErr result (StepSays (λ file cell. (after : Content) × Drafts d.new.puts (C.seen d.new.under.now) after
+        × BreaksColumn after column file cell)
         (λ tier. (after : Content) × Drafts d.new.puts (C.seen d.new.under.now) after × IsFullTier after column tier)
         (λ bits n. (after : Content) × Drafts d.new.puts (C.seen d.new.under.now) after × IsFullChunk after column bits n)) }
 {

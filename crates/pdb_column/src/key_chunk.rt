@@ -1,4 +1,5 @@
-ghost use Rattle.std.specs.Prelude.{◌≡◌, ◌≢◌, ◌⊎◌, ◌≤◌, ◌<◌, ◌+◌, ◌^◌, ℕ, All, Any, IfOk, IfErr, IsTrue, MatchBool, MatchOption, OnErr, OnOk, Some, length};
+ghost use Rattle.std.specs.Prelude.{◌≡◌, ◌≢◌, ◌⊎◌, ◌≤◌, ◌<◌, ◌+◌, ◌^◌, ℕ, All, Any, IfOk, IfErr, IsTrue, Some, length};
+ghost use Rattle.std.specs.Prelude.{MatchBool, MatchOption, OnErr, OnOk};
 ghost use Rattle.sdb_io.specs.Faults.{CountsFault};
 ghost use Rattle.arrayvec.specs.ArrayVec.{array_vec_len};
 ghost use Rattle.pdb_cells.specs.Content.{Content, put_cell};
@@ -102,10 +103,13 @@ pub(crate) fn read_key_chunk<C: Cells>(
     ensures number { IfOk result (λ k. (k.number ≡ chunk_number k.base key.now) × (k.number < 2 ^ 32)) }
     ensures chunk { IfOk result (λ k. IsChunk k.entries.items) }
     ensures tiers { IfOk result (λ k. HaveTiers k.entries.items) }
-    ensures spelled { (cells : Content) → C.seen c.old ≡ Some cells → IfOk result (λ k. HasKeyChunk cells column key.now k.base k.entries.items) }
-    ensures entries { (cells : Content) → C.seen c.old ≡ Some cells → IfOk result (λ k. All (IsEntryOf (head_cell cells column)) k.entries.items) }
+    ensures spelled { (cells : Content) → C.seen c.old ≡ Some cells
+        → IfOk result (λ k. HasKeyChunk cells column key.now k.base k.entries.items) }
+    ensures entries { (cells : Content) → C.seen c.old ≡ Some cells
+        → IfOk result (λ k. All (IsEntryOf (head_cell cells column)) k.entries.items) }
     ensures faults { (cells : Content) → C.seen c.old ≡ Some cells → IfErr result (FaultSays (BreaksColumn cells column) NoTier) }
-    ensures sound { (cells : Content) (base : ℕ) (content : ColumnMap) → C.seen c.old ≡ Some cells → HoldsColumn cells column base content
+    ensures sound { (cells : Content) (base : ℕ) (content : ColumnMap) → C.seen c.old ≡ Some cells
+        → HoldsColumn cells column base content
         → IfErr result (FaultSays NoCell NoTier) }
 {
     let head = read_head(c, column)?;
@@ -144,7 +148,8 @@ pub(crate) fn put_key_chunk<C: Cells>(
     requires number { chunk.now.number < 2 ^ 32 }
     ensures same_reference { d.new.under.ghost_name ≡ d.old.under.ghost_name }
     ensures below { d.new.under.now ≡ d.old.under.now }
-    ensures cells { (cells : Content) → Drafts d.old.puts (C.seen d.old.under.now) cells → OnOk result (Drafts d.new.puts (C.seen d.new.under.now)
+    ensures cells { (cells : Content) → Drafts d.old.puts (C.seen d.old.under.now) cells
+        → OnOk result (Drafts d.new.puts (C.seen d.new.under.now)
         (put_cell (index_file column chunk.now.base) chunk.now.number (spelled chunk.now.entries.items) cells)) }
     ensures err { OnErr result (d.new.puts ≡ d.old.puts) }
 {

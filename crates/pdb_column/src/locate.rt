@@ -39,14 +39,19 @@ pub(crate) fn locate<C: Cells>(
     ensures chunk { IfOk result (λ l. IsChunk l.chunk.entries.items) }
     ensures hit { IfOk result (λ l. IfSome l.hit (λ hit. IsHit l.chunk.entries.items hit.place hit.at.tier hit.at.slot)) }
     ensures within { IfOk result (λ l. IfSome l.hit (λ hit. (hit.place < 64) × (hit.at.tier ≤ 15))) }
-    ensures spelled { (cells : Content) → C.seen c.old ≡ Some cells → IfOk result (λ l. HasKeyChunk cells column key.now l.chunk.base l.chunk.entries.items) }
-    ensures entries { (cells : Content) → C.seen c.old ≡ Some cells → IfOk result (λ l. All (IsEntryOf (head_cell cells column)) l.chunk.entries.items) }
-    ensures same_base { (cells : Content) (base : ℕ) (content : ColumnMap) → C.seen c.old ≡ Some cells → HoldsColumn cells column base content
+    ensures spelled { (cells : Content) → C.seen c.old ≡ Some cells
+        → IfOk result (λ l. HasKeyChunk cells column key.now l.chunk.base l.chunk.entries.items) }
+    ensures entries { (cells : Content) → C.seen c.old ≡ Some cells
+        → IfOk result (λ l. All (IsEntryOf (head_cell cells column)) l.chunk.entries.items) }
+    ensures same_base { (cells : Content) (base : ℕ) (content : ColumnMap) → C.seen c.old ≡ Some cells
+        → HoldsColumn cells column base content
         → IfOk result (λ l. l.chunk.base ≡ base) }
-    ensures found { (cells : Content) (content : ColumnMap) → C.seen c.old ≡ Some cells → IfOk result (λ l. (holds : HoldsColumn cells column l.chunk.base content)
+    ensures found { (cells : Content) (content : ColumnMap) → C.seen c.old ≡ Some cells
+        → IfOk result (λ l. (holds : HoldsColumn cells column l.chunk.base content)
         → MatchOption l.hit (content key.now ≡ None) (λ hit. IsHeldAt holds.picture content key.now hit.at.tier hit.at.slot)) }
     ensures faults { (cells : Content) → C.seen c.old ≡ Some cells → IfErr result (FaultSays (BreaksColumn cells column) NoTier) }
-    ensures sound { (cells : Content) (base : ℕ) (content : ColumnMap) → C.seen c.old ≡ Some cells → HoldsColumn cells column base content
+    ensures sound { (cells : Content) (base : ℕ) (content : ColumnMap) → C.seen c.old ≡ Some cells
+        → HoldsColumn cells column base content
         → IfErr result (FaultSays NoCell NoTier) }
 {
     let chunk = read_key_chunk(c, column, key)?;

@@ -32,10 +32,12 @@ fn read_at<C: Cells>(
     requires tier { entry_tier entry ≤ 15 }
     ensures keeps { C.same c.old c.new }
     ensures counted { CountsFault (disk_fails result) (C.fault_count c.old) (C.fault_count c.new) }
-    ensures reads { MatchResult result (λ found. C.read_count c.new ≤ C.read_count c.old + (if found then slots_of (length out.new.items) else 1))
+    ensures reads { MatchResult result
+        (λ found. C.read_count c.new ≤ C.read_count c.old + (if found then slots_of (length out.new.items) else 1))
         (λ e. C.read_count c.new ≤ C.read_count c.old + slots_of 8388608) }
     ensures stays { (cells : Content) → C.seen c.old ≡ Some cells → C.seen c.new ≡ Some cells }
-    ensures left { (cells : Content) → C.seen c.old ≡ Some cells → IfOk result (λ found. IsFalse found → out.new.items ≡ out.old.items) }
+    ensures left { (cells : Content) → C.seen c.old ≡ Some cells → IfOk result (λ found. IsFalse found
+        → out.new.items ≡ out.old.items) }
     ensures empty { IfOk result (λ found. entry ≡ 0 → IsFalse found) }
     ensures held { (cells : Content) (h : Held) → C.seen c.old ≡ Some cells → entry ≢ 0 → NamesHeld cells column entry h
         → IfOk result (IsReadAt base entry h key.now out.new.items) }
@@ -60,11 +62,14 @@ fn look_up<C: Cells>(
     requires column { column ≤ 1 }
     ensures keeps { C.same c.old c.new }
     ensures counted { CountsFault (disk_fails result) (C.fault_count c.old) (C.fault_count c.new) }
-    ensures reads { MatchResult result (λ found. C.read_count c.new ≤ C.read_count c.old + (if found then 64 + slots_of (length out.new.items) else 65))
+    ensures reads { MatchResult result
+        (λ found. C.read_count c.new ≤ C.read_count c.old + (if found then 64 + slots_of (length out.new.items) else 65))
         (λ e. C.read_count c.new ≤ C.read_count c.old + (64 + slots_of 8388608)) }
-    ensures got { (cells : Content) (base : ℕ) (content : ColumnMap) → C.seen c.old ≡ Some cells → HoldsColumn cells column base content
+    ensures got { (cells : Content) (base : ℕ) (content : ColumnMap) → C.seen c.old ≡ Some cells
+        → HoldsColumn cells column base content
         → IfOk result (IsGot (content key.now) out.old.items out.new.items) }
-    ensures sound { (cells : Content) (base : ℕ) (content : ColumnMap) → C.seen c.old ≡ Some cells → HoldsColumn cells column base content
+    ensures sound { (cells : Content) (base : ℕ) (content : ColumnMap) → C.seen c.old ≡ Some cells
+        → HoldsColumn cells column base content
         → IfErr result (FaultSays NoCell NoTier) }
     ensures faults { (cells : Content) → C.seen c.old ≡ Some cells → IfErr result (FaultSays (BreaksColumn cells column) NoTier) }
 {
@@ -95,11 +100,14 @@ pub fn get<C: Cells>(
     requires column { column ≤ 1 }
     ensures keeps { C.same c.old c.new }
     ensures counted { CountsFault (look_up_disk_fails result) (C.fault_count c.old) (C.fault_count c.new) }
-    ensures reads { MatchResult result (λ found. C.read_count c.new ≤ C.read_count c.old + (if found then 64 + slots_of (length out.new.items) else 65))
+    ensures reads { MatchResult result
+        (λ found. C.read_count c.new ≤ C.read_count c.old + (if found then 64 + slots_of (length out.new.items) else 65))
         (λ e. C.read_count c.new ≤ C.read_count c.old + (64 + slots_of 8388608)) }
-    ensures got { (cells : Content) (base : ℕ) (content : ColumnMap) → C.seen c.old ≡ Some cells → HoldsColumn cells column base content
+    ensures got { (cells : Content) (base : ℕ) (content : ColumnMap) → C.seen c.old ≡ Some cells
+        → HoldsColumn cells column base content
         → IfOk result (IsGot (content key.now) out.old.items out.new.items) }
-    ensures sound { (cells : Content) (base : ℕ) (content : ColumnMap) → C.seen c.old ≡ Some cells → HoldsColumn cells column base content
+    ensures sound { (cells : Content) (base : ℕ) (content : ColumnMap) → C.seen c.old ≡ Some cells
+        → HoldsColumn cells column base content
         → IfErr result (LookUpSays (λ file cell. ⊥)) }
     ensures faults { (cells : Content) → C.seen c.old ≡ Some cells → IfErr result (LookUpSays (BreaksColumn cells column)) }
 {

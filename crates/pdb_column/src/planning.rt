@@ -32,17 +32,24 @@ fn plan_op<C: Cells>(alloc: Global, d: &mut Draft<'_, C>, op: &Op) -> Result<(),
     ensures same_reference { d.new.under.ghost_name ≡ d.old.under.ghost_name }
     ensures keeps { C.same d.old.under.now d.new.under.now }
     ensures counted { CountsFault (step_disk_fails result) (C.fault_count d.old.under.now) (C.fault_count d.new.under.now) }
-    ensures planned { (cells : Content) (bases : ℕ → ℕ) (contents : ℕ → ColumnMap) → Drafts d.old.puts (C.seen d.old.under.now) cells
+    ensures planned { (cells : Content) (bases : ℕ → ℕ) (contents : ℕ → ColumnMap)
+        → Drafts d.old.puts (C.seen d.old.under.now) cells
         → HoldsColumns cells bases contents → OnOk result ((after : Content) × Drafts d.new.puts (C.seen d.new.under.now) after
         × HoldsColumns after bases (λ column. column_after column (contents column) op.now)) }
-    ensures uncrowded { (cells : Content) (bases : ℕ → ℕ) (contents : ℕ → ColumnMap) → Drafts d.old.puts (C.seen d.old.under.now) cells
-        → HoldsColumns cells bases contents → OnOk result ((column bits chunk : ℕ) → column ≤ 1 → Crowds bases contents op.now column bits chunk → ⊥) }
-    ensures sound { (cells : Content) (bases : ℕ → ℕ) (contents : ℕ → ColumnMap) → Drafts d.old.puts (C.seen d.old.under.now) cells
-        → HoldsColumns cells bases contents → IfErr result (StepSays NoCell AnyTier (Crowds bases contents op.now (column_of op.now))) }
+    ensures uncrowded { (cells : Content) (bases : ℕ → ℕ) (contents : ℕ → ColumnMap)
+        → Drafts d.old.puts (C.seen d.old.under.now) cells
+        → HoldsColumns cells bases contents → OnOk result ((column bits chunk : ℕ) → column ≤ 1
+        → Crowds bases contents op.now column bits chunk → ⊥) }
+    ensures sound { (cells : Content) (bases : ℕ → ℕ) (contents : ℕ → ColumnMap)
+        → Drafts d.old.puts (C.seen d.old.under.now) cells
+        → HoldsColumns cells bases contents
+        → IfErr result (StepSays NoCell AnyTier (Crowds bases contents op.now (column_of op.now))) }
     ensures faults { (cells : Content) → Drafts d.old.puts (C.seen d.old.under.now) cells
-        → IfErr result (StepSays (λ file cell. (after : Content) × Drafts d.new.puts (C.seen d.new.under.now) after × BreaksColumn after (column_of op.now) file cell)
+        → IfErr result (StepSays (λ file cell. (after : Content) × Drafts d.new.puts (C.seen d.new.under.now) after
+        × BreaksColumn after (column_of op.now) file cell)
         (λ tier. (after : Content) × Drafts d.new.puts (C.seen d.new.under.now) after × IsFullTier after (column_of op.now) tier)
-        (λ bits n. (after : Content) × Drafts d.new.puts (C.seen d.new.under.now) after × IsFullChunk after (column_of op.now) bits n)) }
+        (λ bits n. (after : Content) × Drafts d.new.puts (C.seen d.new.under.now) after
+        × IsFullChunk after (column_of op.now) bits n)) }
 {
     match op {
         Op::AddRef { key, bytes } => add_node(alloc, d, &key.0, bytes.as_slice()),
@@ -73,18 +80,24 @@ pub fn plan<C: Cells>(alloc: Global, d: &mut Draft<'_, C>, ops: &Ops) -> Result<
     ensures same_reference { d.new.under.ghost_name ≡ d.old.under.ghost_name }
     ensures keeps { C.same d.old.under.now d.new.under.now }
     ensures counted { CountsFault (plan_disk_fails result) (C.fault_count d.old.under.now) (C.fault_count d.new.under.now) }
-    ensures planned { (cells : Content) (bases : ℕ → ℕ) (contents : ℕ → ColumnMap) → Drafts d.old.puts (C.seen d.old.under.now) cells
+    ensures planned { (cells : Content) (bases : ℕ → ℕ) (contents : ℕ → ColumnMap)
+        → Drafts d.old.puts (C.seen d.old.under.now) cells
         → HoldsColumns cells bases contents → OnOk result ((after : Content) × Drafts d.new.puts (C.seen d.new.under.now) after
         × HoldsColumns after bases (λ column. column_from column (contents column) ops.now)) }
-    ensures uncrowded { (cells : Content) (bases : ℕ → ℕ) (contents : ℕ → ColumnMap) → Drafts d.old.puts (C.seen d.old.under.now) cells
+    ensures uncrowded { (cells : Content) (bases : ℕ → ℕ) (contents : ℕ → ColumnMap)
+        → Drafts d.old.puts (C.seen d.old.under.now) cells
         → HoldsColumns cells bases contents
-        → OnOk result ((column bits chunk : ℕ) → column ≤ 1 → FillsChunk (bases column) (contents column) ops.now column bits chunk → ⊥) }
-    ensures sound { (cells : Content) (bases : ℕ → ℕ) (contents : ℕ → ColumnMap) → Drafts d.old.puts (C.seen d.old.under.now) cells
+        → OnOk result ((column bits chunk : ℕ) → column ≤ 1
+        → FillsChunk (bases column) (contents column) ops.now column bits chunk → ⊥) }
+    ensures sound { (cells : Content) (bases : ℕ → ℕ) (contents : ℕ → ColumnMap)
+        → Drafts d.old.puts (C.seen d.old.under.now) cells
         → HoldsColumns cells bases contents → IfErr result (PlanSays (λ file cell. ⊥)
         (λ column bits chunk. FillsChunk (bases column) (contents column) ops.now column bits chunk) (λ column tier. Unit {0})) }
     ensures faults { (cells : Content) → Drafts d.old.puts (C.seen d.old.under.now) cells → IfErr result (PlanSays
-        (λ file cell. (after : Content) × Drafts d.new.puts (C.seen d.new.under.now) after × ((column : ℕ) × (column ≤ 1) × BreaksColumn after column file cell))
-        (λ column bits chunk. (after : Content) × Drafts d.new.puts (C.seen d.new.under.now) after × IsFullChunk after column bits chunk)
+        (λ file cell. (after : Content) × Drafts d.new.puts (C.seen d.new.under.now) after × ((column : ℕ)
+        × (column ≤ 1) × BreaksColumn after column file cell))
+        (λ column bits chunk. (after : Content) × Drafts d.new.puts (C.seen d.new.under.now) after
+        × IsFullChunk after column bits chunk)
         (λ column tier. (after : Content) × Drafts d.new.puts (C.seen d.new.under.now) after × IsFullTier after column tier)) }
 {
     let items = ops.as_slice();

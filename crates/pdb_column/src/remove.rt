@@ -36,19 +36,25 @@ pub(crate) fn remove<C: Cells>(
     ensures base { (chunk.new.base ≡ chunk.old.base) × (chunk.new.number ≡ chunk.old.number) }
     ensures places { IsChunk chunk.new.entries.items }
     ensures dropped { (cells : Content) (content : ColumnMap) (key : List ℕ) → Drafts d.old.puts (C.seen d.old.under.now) cells
-        → (holds : HoldsColumn cells column chunk.old.base content) → HasKeyChunk cells column key chunk.old.base chunk.old.entries.items
+        → (holds : HoldsColumn cells column chunk.old.base content)
+        → HasKeyChunk cells column key chunk.old.base chunk.old.entries.items
         → chunk.old.number ≡ chunk_number chunk.old.base key → IsHit chunk.old.entries.items hit.place hit.at.tier hit.at.slot
         → IsHeldAt holds.picture content key hit.at.tier hit.at.slot
         → OnOk result ((after : Content) × Drafts d.new.puts (C.seen d.new.under.now) after
         × IsDropped column chunk.old.base content key chunk.new.entries.items hit.place cells after) }
     ensures chunk { (cells : Content) (key : List ℕ) → Drafts d.old.puts (C.seen d.old.under.now) cells
-        → HasKeyChunk cells column key chunk.old.base chunk.old.entries.items → All (IsEntryOf (head_cell cells column)) chunk.old.entries.items
+        → HasKeyChunk cells column key chunk.old.base chunk.old.entries.items
+        → All (IsEntryOf (head_cell cells column)) chunk.old.entries.items
         → chunk.old.number ≡ chunk_number chunk.old.base key → IsHit chunk.old.entries.items hit.place hit.at.tier hit.at.slot
-        → OnOk result ((after : Content) × Drafts d.new.puts (C.seen d.new.under.now) after × HasKeyChunk after column key chunk.new.base chunk.new.entries.items) }
-    ensures faults { (cells : Content) → Drafts d.old.puts (C.seen d.old.under.now) cells → All (IsEntryOf (head_cell cells column)) chunk.old.entries.items
-        → IsHit chunk.old.entries.items hit.place hit.at.tier hit.at.slot → IfErr result (FaultSays (λ file cell. (after : Content)
+        → OnOk result ((after : Content) × Drafts d.new.puts (C.seen d.new.under.now) after
+        × HasKeyChunk after column key chunk.new.base chunk.new.entries.items) }
+    ensures faults { (cells : Content) → Drafts d.old.puts (C.seen d.old.under.now) cells
+        → All (IsEntryOf (head_cell cells column)) chunk.old.entries.items
+        → IsHit chunk.old.entries.items hit.place hit.at.tier hit.at.slot
+        → IfErr result (FaultSays (λ file cell. (after : Content)
         × Drafts d.new.puts (C.seen d.new.under.now) after × BreaksColumn after column file cell) NoTier) }
-    ensures sound { (cells : Content) (base : ℕ) (content : ColumnMap) (key : List ℕ) → Drafts d.old.puts (C.seen d.old.under.now) cells
+    ensures sound { (cells : Content) (base : ℕ) (content : ColumnMap) (key : List ℕ)
+        → Drafts d.old.puts (C.seen d.old.under.now) cells
         → (holds : HoldsColumn cells column base content) → IsHeldAt holds.picture content key hit.at.tier hit.at.slot
         → IfErr result (FaultSays NoCell NoTier) }
 {

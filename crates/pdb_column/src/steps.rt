@@ -29,15 +29,20 @@ pub(crate) fn add_node<C: Cells>(
     ensures same_reference { d.new.under.ghost_name ≡ d.old.under.ghost_name }
     ensures keeps { C.same d.old.under.now d.new.under.now }
     ensures counted { CountsFault (step_disk_fails result) (C.fault_count d.old.under.now) (C.fault_count d.new.under.now) }
-    ensures changed { (cells : Content) (base : ℕ) (content : ColumnMap) → Drafts d.old.puts (C.seen d.old.under.now) cells → HoldsColumn cells 0 base content
+    ensures changed { (cells : Content) (base : ℕ) (content : ColumnMap)
+        → Drafts d.old.puts (C.seen d.old.under.now) cells → HoldsColumn cells 0 base content
         → OnOk result ((after : Content) × Drafts d.new.puts (C.seen d.new.under.now) after
         × IsChanged 0 base content key.now (with_reference bytes.now (content key.now)) cells after) }
-    ensures uncrowded { (cells : Content) (base : ℕ) (content : ColumnMap) → Drafts d.old.puts (C.seen d.old.under.now) cells → HoldsColumn cells 0 base content
+    ensures uncrowded { (cells : Content) (base : ℕ) (content : ColumnMap)
+        → Drafts d.old.puts (C.seen d.old.under.now) cells → HoldsColumn cells 0 base content
         → OnOk result (content key.now ≡ None → IsCrowded content base key.now → ⊥) }
-    ensures sound { (cells : Content) (base : ℕ) (content : ColumnMap) → Drafts d.old.puts (C.seen d.old.under.now) cells → HoldsColumn cells 0 base content
-        → IfErr result (StepSays NoCell AnyTier (λ bits n. (content key.now ≡ None) × (bits ≡ base) × (n ≡ chunk_number bits key.now) × IsCrowded content bits key.now)) }
+    ensures sound { (cells : Content) (base : ℕ) (content : ColumnMap)
+        → Drafts d.old.puts (C.seen d.old.under.now) cells → HoldsColumn cells 0 base content
+        → IfErr result (StepSays NoCell AnyTier (λ bits n. (content key.now ≡ None) × (bits ≡ base)
+        × (n ≡ chunk_number bits key.now) × IsCrowded content bits key.now)) }
     ensures faults { (cells : Content) → Drafts d.old.puts (C.seen d.old.under.now) cells
-        → IfErr result (StepSays (λ file cell. (after : Content) × Drafts d.new.puts (C.seen d.new.under.now) after × BreaksColumn after 0 file cell)
+        → IfErr result (StepSays (λ file cell. (after : Content) × Drafts d.new.puts (C.seen d.new.under.now) after
+        × BreaksColumn after 0 file cell)
         (λ tier. (after : Content) × Drafts d.new.puts (C.seen d.new.under.now) after × IsFullTier after 0 tier)
         (λ bits n. (after : Content) × Drafts d.new.puts (C.seen d.new.under.now) after × IsFullChunk after 0 bits n)) }
 {
@@ -62,12 +67,15 @@ pub(crate) fn drop_key<C: Cells>(
     ensures same_reference { d.new.under.ghost_name ≡ d.old.under.ghost_name }
     ensures keeps { C.same d.old.under.now d.new.under.now }
     ensures counted { CountsFault (disk_fails result) (C.fault_count d.old.under.now) (C.fault_count d.new.under.now) }
-    ensures changed { (cells : Content) (base : ℕ) (content : ColumnMap) → Drafts d.old.puts (C.seen d.old.under.now) cells → HoldsColumn cells column base content
+    ensures changed { (cells : Content) (base : ℕ) (content : ColumnMap)
+        → Drafts d.old.puts (C.seen d.old.under.now) cells → HoldsColumn cells column base content
         → OnOk result ((after : Content) × Drafts d.new.puts (C.seen d.new.under.now) after
         × IsChanged column base content key.now (without_reference (content key.now)) cells after) }
-    ensures sound { (cells : Content) (base : ℕ) (content : ColumnMap) → Drafts d.old.puts (C.seen d.old.under.now) cells → HoldsColumn cells column base content
+    ensures sound { (cells : Content) (base : ℕ) (content : ColumnMap)
+        → Drafts d.old.puts (C.seen d.old.under.now) cells → HoldsColumn cells column base content
         → IfErr result (FaultSays NoCell NoTier) }
-    ensures faults { (cells : Content) → Drafts d.old.puts (C.seen d.old.under.now) cells → IfErr result (FaultSays (λ file cell. (after : Content)
+    ensures faults { (cells : Content) → Drafts d.old.puts (C.seen d.old.under.now) cells
+        → IfErr result (FaultSays (λ file cell. (after : Content)
         × Drafts d.new.puts (C.seen d.new.under.now) after × BreaksColumn after column file cell) NoTier) }
 {
     let mut found = locate(alloc, d, column, key)?;
@@ -89,17 +97,22 @@ pub(crate) fn put_plain<C: Cells>(
     ensures same_reference { d.new.under.ghost_name ≡ d.old.under.ghost_name }
     ensures keeps { C.same d.old.under.now d.new.under.now }
     ensures counted { CountsFault (step_disk_fails result) (C.fault_count d.old.under.now) (C.fault_count d.new.under.now) }
-    ensures changed { (cells : Content) (base : ℕ) (content : ColumnMap) → Drafts d.old.puts (C.seen d.old.under.now) cells → HoldsColumn cells 1 base content
+    ensures changed { (cells : Content) (base : ℕ) (content : ColumnMap)
+        → Drafts d.old.puts (C.seen d.old.under.now) cells → HoldsColumn cells 1 base content
         → ((h : Counted) → content key.now ≡ Some h → h.count ≡ 1)
         → OnOk result ((after : Content) × Drafts d.new.puts (C.seen d.new.under.now) after
         × IsChanged 1 base content key.now (Some (record { count = 1; bytes = bytes.now })) cells after) }
-    ensures uncrowded { (cells : Content) (base : ℕ) (content : ColumnMap) → Drafts d.old.puts (C.seen d.old.under.now) cells → HoldsColumn cells 1 base content
+    ensures uncrowded { (cells : Content) (base : ℕ) (content : ColumnMap)
+        → Drafts d.old.puts (C.seen d.old.under.now) cells → HoldsColumn cells 1 base content
         → OnOk result (content key.now ≡ None → IsCrowded content base key.now → ⊥) }
-    ensures sound { (cells : Content) (base : ℕ) (content : ColumnMap) → Drafts d.old.puts (C.seen d.old.under.now) cells → HoldsColumn cells 1 base content
+    ensures sound { (cells : Content) (base : ℕ) (content : ColumnMap)
+        → Drafts d.old.puts (C.seen d.old.under.now) cells → HoldsColumn cells 1 base content
         → ((h : Counted) → content key.now ≡ Some h → h.count ≡ 1)
-        → IfErr result (StepSays NoCell AnyTier (λ bits n. (content key.now ≡ None) × (bits ≡ base) × (n ≡ chunk_number bits key.now) × IsCrowded content bits key.now)) }
+        → IfErr result (StepSays NoCell AnyTier (λ bits n. (content key.now ≡ None) × (bits ≡ base)
+        × (n ≡ chunk_number bits key.now) × IsCrowded content bits key.now)) }
     ensures faults { (cells : Content) → Drafts d.old.puts (C.seen d.old.under.now) cells
-        → IfErr result (StepSays (λ file cell. (after : Content) × Drafts d.new.puts (C.seen d.new.under.now) after × BreaksColumn after 1 file cell)
+        → IfErr result (StepSays (λ file cell. (after : Content) × Drafts d.new.puts (C.seen d.new.under.now) after
+        × BreaksColumn after 1 file cell)
         (λ tier. (after : Content) × Drafts d.new.puts (C.seen d.new.under.now) after × IsFullTier after 1 tier)
         (λ bits n. (after : Content) × Drafts d.new.puts (C.seen d.new.under.now) after × IsFullChunk after 1 bits n)) }
 {
