@@ -34,14 +34,11 @@ fn base_of(cell: &[u8]) -> Option<u8>
     ensures base { MatchOption result ((h : Head) → SpellsHead cell.now h → (h.bits ≢ h.base) ⊎ (h.growing ≢ 0))
         (λ base. (base ≤ 16) × ((h : Head) → SpellsHead cell.now h → IsFixedHead base h)) }
 {
-    let [_, base, bits, growing, ..] = cell else {
+    let [_, base, bits, ..] = cell else {
         unreachable!()
     };
-    if bits == base && *growing == 0 {
-        Some(*base)
-    } else {
-        None
-    }
+    // an index that grows has more bits than the base
+    if *bits == *base { Some(*base) } else { None }
 }
 
 // whether an entry keeps the rules beside its column's head cell
