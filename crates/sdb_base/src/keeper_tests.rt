@@ -79,7 +79,7 @@ fn columns_hold_what_operations_leave(rt: HostRuntime) -> Result<(), Fail> {
 fn a_value_that_is_too_long_refuses_its_commit(rt: HostRuntime) -> Result<(), Fail> {
     let mut keeper = MapKeeper::new(rt.alloc());
     assert_eq!(rt;
-        keeper.commit(ops(rt.alloc(), &[Add(1, 4), Add(1, 4)])?),
+        commit(&mut keeper, ops(rt.alloc(), &[Add(1, 4), Add(1, 4)])?),
         Ok(1)
     );
     let refused = Err(KeepFault::ValueTooLong { len: 8_388_609 });
@@ -89,11 +89,11 @@ fn a_value_that_is_too_long_refuses_its_commit(rt: HostRuntime) -> Result<(), Fa
         (8_388_608, 7, Ok(3), (None, Some(7))),
     ] {
         let steps = [Put(1, 9), Fill(1, byte, len), Release(1)];
-        assert_eq!(rt; keeper.commit(ops(rt.alloc(), &steps)?), want);
+        assert_eq!(rt; commit(&mut keeper, ops(rt.alloc(), &steps)?), want);
         assert_eq!(rt; held(&mut keeper)?, left);
     }
-    assert_eq!(rt; keeper.numbers().accepted, 3);
-    assert_eq!(rt; (keeper.faults(), keeper.reads()), (0, 0));
+    assert_eq!(rt; numbers(&keeper).accepted, 3);
+    assert_eq!(rt; counts(&keeper), (0, 0));
     Ok(())
 }
 
@@ -101,19 +101,19 @@ fn a_value_that_is_too_long_refuses_its_commit(rt: HostRuntime) -> Result<(), Fa
 fn commits_go_through_the_stages(rt: HostRuntime) -> Result<(), Fail> {
     let mut keeper = MapKeeper::new(rt.alloc());
     for number in 1..4u64 {
-        assert_eq!(rt; keeper.commit(Ops::new(rt.alloc())), Ok(number));
+        assert_eq!(rt; commit(&mut keeper, Ops::new(rt.alloc())), Ok(number));
     }
     for (call, want) in ANSWERS {
         assert_eq!(rt; answer(rt.alloc(), &mut keeper, call), Ok(Some(want)));
     }
-    let numbers = Numbers {
+    let want = Numbers {
         accepted: 3,
         logged: 3,
         flushed: 3,
         enacted: 3,
         cleaned: 3,
     };
-    assert_eq!(rt; keeper.numbers(), numbers);
+    assert_eq!(rt; numbers(&keeper), want);
     Ok(())
 }
 
@@ -141,13 +141,29 @@ fn failed(alloc: Global, failing: KeeperCall) -> Result<Option<KeeperCall>, OutO
             found = Some(call);
         }
     }
-    Ok(if keeper.faults() == 1 { found } else { None })
+    Ok(if counts(&keeper).0 == 1 { found } else { None })
+}
+
+// The calls of any keeper: what the tests compare is what it answers, so that no more is said of it here.
+fn commit<K: Keeper>(keeper: &mut K, ops: Ops) -> Result<u64, KeepFault>
+    requires { All HasShortKey ops }
+{
+    keeper.commit(ops)
+}
+
+fn numbers<K: Keeper>(keeper: &K) -> Numbers {
+    keeper.numbers()
+}
+
+// Of its faults and of its reads.
+fn counts<K: Keeper>(keeper: &K) -> (u64, u64) {
+    (keeper.faults(), keeper.reads())
 }
 
 // The answer of a call, of a stage with what it says.
-fn answer(
+fn answer<K: Stages>(
     alloc: Global,
-    keeper: &mut MapKeeper,
+    keeper: &mut K,
     call: KeeperCall,
 ) -> Result<Option<StageAnswer>, KeepFault> {
     Ok(match call {
@@ -174,7 +190,7 @@ fn answer(
 // What is held under the key 1 after one commit of the operations.
 fn held_after_one(alloc: Global, steps: &[Step]) -> Result<(Option<u8>, Option<u8>), Fail> {
     let mut keeper = MapKeeper::new(alloc);
-    let _ = keeper.commit(ops(alloc, steps)?)?;
+    let _ = commit(&mut keeper, ops(alloc, steps)?)?;
     held(&mut keeper)
 }
 
@@ -182,13 +198,13 @@ fn held_after_one(alloc: Global, steps: &[Step]) -> Result<(Option<u8>, Option<u
 fn held_after_each(alloc: Global, steps: &[Step]) -> Result<(Option<u8>, Option<u8>), Fail> {
     let mut keeper = MapKeeper::new(alloc);
     for step in steps {
-        let _ = keeper.commit(one(alloc, step)?)?;
+        let _ = commit(&mut keeper, one(alloc, step)?)?;
     }
     held(&mut keeper)
 }
 
 // The first byte of the node, and of the bytes, under the key 1.
-fn held(keeper: &mut MapKeeper) -> Result<(Option<u8>, Option<u8>), Fail> {
+fn held<K: Keeper>(keeper: &mut K) -> Result<(Option<u8>, Option<u8>), Fail> {
     let node = keeper.node(&NodeHash([1; 32]))?;
     let meta = keeper.meta(&[1])?;
     Ok((first_byte(node), first_byte(meta)))

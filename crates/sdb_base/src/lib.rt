@@ -6,6 +6,9 @@
 //! memory. A list takes its allocator when it is made and keeps it. A call that finds no memory says so
 //! and changes nothing. What the values mean, which keys and lengths are allowed, and how they are spelled,
 //! is left to the layers above.
+//!
+//! `Keeper` and `Stages` say what keeps commits of such operations and carries them through its stages, whatever it
+//! is; `MapKeeper` is one in memory.
 #![tactic(auto)]
 
 mod block;
