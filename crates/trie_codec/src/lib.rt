@@ -22,6 +22,3 @@ pub use laws::{
 pub use node_ref::{ChildRef, Kind, NodeRef};
 pub use plain::{ChildList, Plain};
 pub use writing::{encode, encode_leaf, encode_parts};
-
-#[cfg(test)]
-mod tests;

@@ -29,12 +29,3 @@ pub use laws::{
 pub use next_job::NextJob;
 pub use read_job::ReadJob;
 pub use walk_job::WalkJob;
-
-#[cfg(test)]
-mod example_nodes;
-#[cfg(test)]
-mod next_tests;
-#[cfg(test)]
-mod tests;
-#[cfg(test)]
-mod walk_tests;

@@ -23,6 +23,3 @@ pub use laws::{
 };
 pub use root::root_of;
 pub use tries::{a_trie_gives_its_state_back, nodes_of_tries_are_nodes};
-
-#[cfg(test)]
-mod tests;

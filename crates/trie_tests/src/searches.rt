@@ -1,10 +1,10 @@
-use crate::NextJob;
 use crate::example_nodes::{AT_1, AT_2, AT_100, AT_203, AT_1000, AT_2031, AT_A, AT_AA, ROOT};
-use crate::tests::{BRANCH, HASHED, MIXED};
+use crate::reads::{BRANCH, HASHED, MIXED};
 use sdb_base::{Bytes, NodeHash};
 use sdb_blake2::hash256;
 use std::alloc::Global;
 use std::test::*;
+use trie_read::NextJob;
 
 // Nodes as they are wanted, the key, and the least key above it.
 const SEARCHES: [(&[&[u8]], &[u8], Option<&[u8]>); 23] = [

@@ -1,10 +1,10 @@
 ghost use Rattle.std.specs.Prelude.{IsTrue};
 ghost use Rattle.trie_root.specs.Pairs.{AllWithin, KeysRise};
 
-use crate::root_of;
 use sdb_base::{Bytes, Nibbles, NodeHash, Pair, Pairs, TryCopy};
 use std::alloc::Global;
 use std::test::*;
+use trie_root::root_of;
 
 // Keys that rise, and their nibbles.
 const KEYS: [(&[u8], &[u8]); 4] = [

@@ -1,8 +1,8 @@
-use crate::ReadJob;
 use sdb_base::{Bytes, NodeHash};
 use sdb_blake2::hash256;
 use std::alloc::Global;
 use std::test::*;
+use trie_read::ReadJob;
 
 // Nodes on a key's way from the root on, the key, and its value.
 const READS: [(&[&[u8]], &[u8], Option<&[u8]>); 7] = [

@@ -1,6 +1,6 @@
 use Rattle.std.proofs.Common.{◌-◌, drop}
 use Rattle.trie_root.specs.Pairs.{KeysRise}
-use Rattle.trie_root.proofs.tests.rises.Given as goal
+use Rattle.trie_tests.proofs.roots.rises.Given as goal
 
 -- the keys from here on rise
 abbrev pub invariant-loop-i : goal.invariant-loop-i

@@ -11,7 +11,7 @@ use Rattle.sdb_base.specs.declared.Pair.{Pair}
 use Rattle.trie_root.specs.Pairs.{KeysRise, entries_of}
 use Rattle.trie_root.proofs.Ends.{below_all, first_of_and, second_of_and}
 use Rattle.trie_root.proofs.Stripped.{and, true_from_T}
-use Rattle.trie_root.proofs.tests.rises.Goals as goal
+use Rattle.trie_tests.proofs.roots.rises.Goals as goal
 
 less_from_T : (o : Ordering) → T (is_lt o) → o ≡ Less
 less_from_T Less h = refl

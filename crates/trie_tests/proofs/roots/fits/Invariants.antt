@@ -1,6 +1,6 @@
 use Rattle.std.proofs.Common.{take}
 use Rattle.trie_root.specs.Pairs.{AllWithin}
-use Rattle.trie_root.proofs.tests.fits.Given as goal
+use Rattle.trie_tests.proofs.roots.fits.Given as goal
 
 -- the pairs so far are short
 abbrev pub invariant-loop-pair : goal.invariant-loop-pair

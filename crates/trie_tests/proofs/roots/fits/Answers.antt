@@ -4,7 +4,7 @@ use Rattle.std.proofs.lemmas.List.Elements.{All-more, at_read}
 use Rattle.sdb_base.specs.declared.Pair.{Pair}
 use Rattle.trie_model.specs.Limits.{AreWithin}
 use Rattle.trie_root.specs.Pairs.{AllWithin}
-use Rattle.trie_root.proofs.tests.fits.Goals as goal
+use Rattle.trie_tests.proofs.roots.fits.Goals as goal
 
 pub loop-pair-preserved : goal.loop-pair-preserved
 loop-pair-preserved c =
