@@ -7,12 +7,11 @@ use Rattle.pdb_model.specs.Chunks.{IsChunk, chunk_bytes, chunk_number, entry_of,
 use Rattle.pdb_model.specs.Columns.{Column}
 use Rattle.pdb_model.specs.Files.{OnlyTable, head_cell, index_file}
 use Rattle.pdb_model.specs.Heads.{IsHeadCell}
-use Rattle.pdb_model.specs.Tables.{IsTable, Slot, Table, next_slot, placed}
+use Rattle.pdb_model.specs.Tables.{Table, next_slot, placed}
 use Rattle.pdb_model.specs.Tiers.{tier_of}
 use Rattle.pdb_value.specs.Faults.{BreaksFreeList, FaultSays, HasTable, IsFullTier, NoCell}
 use Rattle.pdb_value.specs.declared.fault.ValueFault.{ValueFault}
 use Rattle.pdb_value.proofs.Broken.{says_more}
-use Rattle.pdb_value.proofs.Sound.{here, listed, table}
 use Rattle.pdb_column.specs.Damages.{BreaksColumn, IsFullChunk}
 use Rattle.pdb_column.specs.Holding.{HoldsColumn}
 use Rattle.pdb_column.specs.Maps.{ColumnMap, IsCrowded}
@@ -75,14 +74,10 @@ not_crowded_in cells column base b content key entries place holds chunk empty m
 
 -- ---- the step
 
-next_of : (slot : ℕ → Slot) (free : List ℕ) (end : ℕ) → IsTable (table slot free end) → 1 ≤ next_slot free end
-next_of slot [] end is = omega arith
-next_of slot (s ∷ rest) end is = let low = (listed (table slot (s ∷ rest) end) s is (here s rest)).0 in omega arith
-
 pub inserted_held : (cells mid : Content) (column b number tier slot entry : ℕ) (content : ColumnMap) (key entries new bytes : List ℕ) → (holds : HoldsColumn cells column b content) → HasKeyChunk cells column key b entries
     → tier ≡ tier_of (length bytes) → slot ≡ next_slot (holds.picture.tables (tier_of (length bytes))).free (holds.picture.tables (tier_of (length bytes))).end
     → OnlyTable column tier cells mid → IsHeadCell (head_cell mid column) → HasTable mid column tier (placed (holds.picture.tables (tier_of (length bytes))) key 1 bytes)
-    → content key ≡ None → (1 ≤ slot → entry ≡ entry_of b key tier slot) → entry < 2 ^ 64 → IsPutAt entries entry new → number ≡ chunk_number b key
+    → content key ≡ None → entry ≡ entry_of b key tier slot → entry < 2 ^ 64 → IsPutAt entries entry new → number ≡ chunk_number b key
     → IsChanged column b content key (Some (record { count = 1; bytes = bytes })) cells (put_cell (index_file column b) number (chunk_bytes new) mid)
 inserted_held cells mid column b number tier slot entry content key entries new bytes holds chunk tier_is slot_is only head there none entry_is small at number_is =
     let c : Column = holds.picture in
@@ -91,9 +86,8 @@ inserted_held cells mid column b number tier slot entry content key entries new 
     let low : to < 16 = tier_low (length bytes) in
     let in_it = in_picture cells column b b content key entries holds chunk in
     let same = newest_is c key b entries in_it in
-    let some : 1 ≤ slot = subst (λ s. 1 ≤ s) (sym slot_is) (next_of t.slot t.free t.end (holds.spelled.tables to low).is) in
     let is : entry ≡ entry_of c.base key to (next_slot t.free t.end) =
-    entry_is some ∙ (ap (λ k. entry_of b key k slot) tier_is ∙ (ap (λ s. entry_of b key to s) slot_is ∙ ap (λ n. entry_of n key to (next_slot t.free t.end)) (sym in_it.base_is))) in
+    entry_is ∙ (ap (λ k. entry_of b key k slot) tier_is ∙ (ap (λ s. entry_of b key to s) slot_is ∙ ap (λ n. entry_of n key to (next_slot t.free t.end)) (sym in_it.base_is))) in
     let set_is : slice_set (c.newest (chunk_number c.bits key)) at.place (entry_of c.base key to (next_slot t.free t.end)) ≡ new =
     ap (λ xs. slice_set xs at.place (entry_of c.base key to (next_slot t.free t.end))) same ∙ (ap (λ e. slice_set entries at.place e) (sym is) ∙ sym at.is) in
     let only_to = subst (λ k. OnlyTable column k cells mid) tier_is only in

@@ -22,3 +22,4 @@ pub mod Hits
 pub mod Entered
 pub mod Located
 pub mod Planned
+pub mod SlotsFirst

@@ -1,5 +1,6 @@
 use Rattle.std.proofs.Common.{◌≡◌, ◌∷◌, [], ◌++◌, ◌+◌, ◌≤◌, ℕ, suc, List, take, drop, refl, sym, ap, subst, ◌∙◌, arith}
 use Rattle.std.proofs.lemmas.List.{take_all, take_more}
+use Rattle.std.specs.Prelude.{Contains}
 use Rattle.sdb_base.specs.declared.op.Op.{Op}
 use Rattle.pdb_cells.specs.Content.{Content}
 use Rattle.pdb_value.specs.Faults.{Drafts, IsFullTier}
@@ -7,9 +8,11 @@ use Rattle.pdb_column.specs.Answers.{PlanSays}
 use Rattle.pdb_column.specs.Damages.{BreaksColumn, IsFullChunk}
 use Rattle.pdb_column.specs.Holding.{HoldsColumns}
 use Rattle.pdb_column.specs.Maps.{FillsChunk, column_from}
+use Rattle.pdb_column.specs.Storing.{HasPlaced}
 use Rattle.pdb_column.specs.inner.Faults.{as_planned}
 use Rattle.pdb_column.specs.inner.Operations.{column_of}
 use Rattle.pdb_column.proofs.Planned.{column_low, more_fill, more_hold, none_fills, plan_says, plan_sound, split_at, still_drafted}
+use Rattle.pdb_column.proofs.SlotsFirst.{plan_slots}
 use Rattle.pdb_column.proofs.planning.plan.Goals as goal
 
 pub loop-op-init : goal.loop-op-init
@@ -61,6 +64,17 @@ returns-in-Err-clause-faults g c cells drafts =
     (λ u tier. (x : Content) × Drafts c.plan_op.new.d.puts (g.C.Cells.seen c.plan_op.new.d.under.now) x × IsFullTier x u tier))
     (sym (c.plan_fault.ensures ∙ ap (λ n. as_planned n c.in-Err.fault) c.column_of.ensures))
     (plan_says (λ (x : Content). Drafts c.plan_op.new.d.puts (g.C.Cells.seen c.plan_op.new.d.under.now) x) (column_of op) c.in-Err.fault (column_low op) (c.in-Err.ensures.faults at.0 at.1))
+
+pub returns-in-Err-clause-slots_first : goal.returns-in-Err-clause-slots_first
+returns-in-Err-clause-slots_first g c cells bases contents drafts holds =
+    let i : ℕ = c.loop-op.op-index in
+    let op : Op = c.op-item.result in
+    let at = c.loop-op.invariant.planned cells bases contents drafts holds in
+    let among : Contains c.args.ops.now op = subst (λ (os : List Op). Contains os op) c.as_slice-items.ensures (i, omega arith, sym c.op-item.is) in
+    subst (PlanSays (λ file cell. Unit {0}) (λ u bits chunk. (x : Content) × Drafts c.plan_op.new.d.puts (g.C.Cells.seen c.plan_op.new.d.under.now) x × HasPlaced x c.args.ops.now u) (λ u tier. Unit {0}))
+    (sym (c.plan_fault.ensures ∙ ap (λ n. as_planned n c.in-Err.fault) c.column_of.ensures))
+    (plan_slots (λ (x : Content). Drafts c.plan_op.new.d.puts (g.C.Cells.seen c.plan_op.new.d.under.now) x) c.args.ops.now op (column_of op) c.in-Err.fault among
+    (c.in-Err.ensures.slots_first at.0 bases (λ u. column_from u (contents u) (take i c.as_slice-items.result.now)) at.1 at.2))
 
 pub returns-clause-planned : goal.returns-clause-planned
 returns-clause-planned g c cells bases contents drafts holds =
