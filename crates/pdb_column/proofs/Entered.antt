@@ -1,5 +1,5 @@
 -- A value is placed, and its entry put into its key's chunk.
-use Rattle.std.proofs.Common.{◌≡◌, ◌≢◌, ◌∷◌, [], ◌^◌, ◌<◌, ◌≤◌, All, ℕ, List, Some, None, Result, Ok, Err, OnOk, false, length, sym, ap, subst, ◌∙◌, arith, inl, inr}
+use Rattle.std.proofs.Common.{◌≡◌, ◌≢◌, ◌^◌, ◌<◌, All, ℕ, List, Some, None, Result, Ok, Err, OnOk, false, length, sym, ap, subst, ◌∙◌, inl, inr}
 use Rattle.std.specs.Option.{option_map}
 use Rattle.std.specs.Prelude.{is_err, slice_get, slice_set}
 use Rattle.pdb_cells.specs.Content.{Content, put_cell}
@@ -22,9 +22,10 @@ use Rattle.pdb_column.specs.inner.Steps.{with_under}
 use Rattle.pdb_column.proofs.Cells.{both_held, chunk_set}
 use Rattle.pdb_column.proofs.Crowding.{crowded, not_crowded, spelled_keys}
 use Rattle.pdb_column.proofs.Inserting.{inserting, tier_low}
-use Rattle.pdb_column.proofs.KeyChunks.{IsIn, in_picture, number_within}
+use Rattle.pdb_column.proofs.Finding.{chunk_within}
+use Rattle.pdb_column.proofs.KeyChunks.{in_picture, newest_is}
 use Rattle.pdb_column.proofs.OneColumn.{column_from_chunk, column_from_table, column_on}
-use Rattle.pdb_column.proofs.Places.{At, Nowhere, stands}
+use Rattle.pdb_value.proofs.Places.{At, Nowhere, stands}
 
 -- ---- the first empty place
 
@@ -51,9 +52,6 @@ at_ok (Ok x) e h = h
 at_ok (Err y) e h = absurd (cc)
 
 -- ---- room
-
-newest_is : (c : Column) (key : List ℕ) (b : ℕ) (entries : List ℕ) → IsIn c key b entries → c.newest (chunk_number c.bits key) ≡ entries
-newest_is c key b entries is = ap (λ n. c.newest (chunk_number n key)) is.bits_are ∙ is.newest
 
 pub crowded_in : (cells : Content) (column base b : ℕ) (content : ColumnMap) (key entries : List ℕ) → (holds : HoldsColumn cells column base content) → HasKeyChunk cells column key b entries
     → All (λ e. e ≢ 0) entries → IsCrowded content b key
@@ -97,7 +95,7 @@ inserted_held cells mid column b number tier slot entry content key entries new 
       holds = both_held cells mid column to b b number content (with_under content key (Some (record { count = 1; bytes = bytes }))) (placed t key 1 bytes) (chunk_number c.bits key)
           (slice_set (c.newest (chunk_number c.bits key)) at.place (entry_of c.base key to (next_slot t.free t.end))) new holds low only_to head there_to
           (inserting c content key 1 bytes at.place holds.is holds.fixed holds.holds none there_to.is (ap (λ xs. slice_get xs at.place) same ∙ at.empty))
-          (number_within c.bits key) (subst IsChunk (sym set_is) (chunk_set entries new at.place entry chunk.is_chunk small at.is)) in_it.bits_are (ap (λ n. chunk_number n key) in_it.bits_are ∙ sym number_is) set_is;
+          (chunk_within c.bits key) (subst IsChunk (sym set_is) (chunk_set entries new at.place entry chunk.is_chunk small at.is)) in_it.bits_are (ap (λ n. chunk_number n key) in_it.bits_are ∙ sym number_is) set_is;
     }
 
 -- ---- faults
@@ -111,7 +109,7 @@ full_chunk cells column b number key entries chunk full number_is = (
     spelled = chunk.spelled;
     keeps = chunk.keeps;
     is_file = ap (index_file column) (sym chunk.fixed.bits_are);
-    within = subst (λ n. number < 2 ^ n) (sym chunk.fixed.bits_are) (subst (λ n. n < 2 ^ b) (sym number_is) (number_within b key));
+    within = subst (λ n. number < 2 ^ n) (sym chunk.fixed.bits_are) (subst (λ n. n < 2 ^ b) (sym number_is) (chunk_within b key));
     is_chunk = chunk.is_chunk;
     bytes = ap (λ n. cells (index_file column b) n) number_is ∙ chunk.bytes;
   },

@@ -1,5 +1,4 @@
 pub mod Cases
-pub mod Places
 pub mod Held
 pub mod Freed
 pub mod Taken

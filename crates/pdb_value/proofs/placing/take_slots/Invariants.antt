@@ -1,4 +1,4 @@
-use Rattle.std.proofs.Common.{◌≡◌, ◌≤◌, ◌-◌, ℕ, All, length}
+use Rattle.std.proofs.Common.{◌≡◌, ◌≤◌, ◌-◌, All, length}
 use Rattle.pdb_cells.specs.Content.{Content}
 use Rattle.pdb_value.specs.Faults.{Drafts}
 use Rattle.pdb_value.specs.inner.Many.{AreTaken}
