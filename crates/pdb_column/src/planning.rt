@@ -101,7 +101,8 @@ pub fn plan<C: Cells>(alloc: Global, d: &mut Draft<'_, C>, ops: &Ops) -> Result<
     ensures slots_first { (cells : Content) (bases : ℕ → ℕ) (contents : ℕ → ColumnMap)
         → Drafts d.old.puts (C.seen d.old.under.now) cells
         → HoldsColumns cells bases contents → IfErr result (PlanSays (λ file cell. Unit {0})
-        (λ column bits chunk. (after : Content) × Drafts d.new.puts (C.seen d.new.under.now) after × HasPlaced after ops.now column)
+        (λ column bits chunk. (after : Content) × Drafts d.new.puts (C.seen d.new.under.now) after
+        × HasPlaced after (bases column) (contents column) ops.now column bits chunk)
         (λ column tier. Unit {0})) }
     ensures faults { (cells : Content) → Drafts d.old.puts (C.seen d.old.under.now) cells → IfErr result (PlanSays
         (λ file cell. (after : Content) × Drafts d.new.puts (C.seen d.new.under.now) after × ((column : ℕ)
