@@ -256,6 +256,7 @@ fn text_of(alloc: Global, reply: LineReply) -> Result<Vec<u8>, AllocError> {
 fn replies(rt: HostRuntime) -> Result<(), Fail> {
     let alloc = rt.alloc();
     let bytes = Bytes::from_slice(alloc, b"\x00\x1f\xab")?;
+    let key = Bytes::from_slice(alloc, b"\x0a\xf0")?;
     for (reply, want) in [
         (LineReply::New, "> new"),
         (LineReply::Genesis, "> genesis"),
@@ -266,34 +267,12 @@ fn replies(rt: HostRuntime) -> Result<(), Fail> {
         ),
         (LineReply::Job(Reply::Value(bytes)), "> value 001fab"),
         (LineReply::Job(Reply::Value(Bytes::new(alloc))), "> value -"),
+        (LineReply::Job(Reply::Key(key)), "> next 0af0"),
+        (LineReply::Job(Reply::Key(Bytes::new(alloc))), "> next -"),
         (LineReply::Job(Reply::Nothing), "> none"),
         (
             LineReply::Job(Reply::Root(NodeHash([0xa0; 32]))),
             "> root a0a0a0a0a0a0a0a0a0a0a0a0a0a0a0a0a0a0a0a0a0a0a0a0a0a0a0a0a0a0a0a0",
-        ),
-        (
-            LineReply::Job(Reply::Refused(Refusal::UnknownBlock)),
-            "> refused 1 UnknownBlock",
-        ),
-        (
-            LineReply::Job(Reply::Refused(Refusal::AlreadyExists)),
-            "> refused 3 AlreadyExists",
-        ),
-        (
-            LineReply::Job(Reply::Refused(Refusal::UnknownParent)),
-            "> refused 4 UnknownParent",
-        ),
-        (
-            LineReply::Job(Reply::Refused(Refusal::TooManySiblings { number: 40 })),
-            "> refused 6 TooManySiblings 40",
-        ),
-        (
-            LineReply::Job(Reply::Refused(Refusal::NoGenesis)),
-            "> refused 10 NoGenesis",
-        ),
-        (
-            LineReply::Refused(Refusal::HasGenesis),
-            "> refused 9 HasGenesis",
         ),
     ] {
         let text = text_of(alloc, reply)?;
@@ -302,31 +281,44 @@ fn replies(rt: HostRuntime) -> Result<(), Fail> {
     Ok(())
 }
 
-fn listed(alloc: Global, keys: &[&[u8]]) -> Result<LineReply, AllocError> {
+#[test]
+fn refusals(rt: HostRuntime) -> Result<(), Fail> {
+    let alloc = rt.alloc();
+    for (refusal, want) in [
+        (Refusal::UnknownBlock, "> refused 1 UnknownBlock"),
+        (Refusal::AlreadyExists, "> refused 3 AlreadyExists"),
+        (Refusal::UnknownParent, "> refused 4 UnknownParent"),
+        (
+            Refusal::TooManySiblings { number: 40 },
+            "> refused 6 TooManySiblings 40",
+        ),
+        (Refusal::HasGenesis, "> refused 9 HasGenesis"),
+        (Refusal::NoGenesis, "> refused 10 NoGenesis"),
+    ] {
+        let of_a_job = text_of(alloc, LineReply::Job(Reply::Refused(refusal)))?;
+        assert_eq!(rt; of_a_job.as_slice(), want.as_bytes(), "{want}");
+        let of_a_line = text_of(alloc, LineReply::Refused(refusal))?;
+        assert_eq!(rt; of_a_line.as_slice(), want.as_bytes(), "{want}");
+    }
+    Ok(())
+}
+
+// Whether the reply to a list of these keys has this text.
+fn is_listed(alloc: Global, keys: &[&[u8]], want: &[u8]) -> Result<bool, AllocError> {
     let mut listed = Keys::new(alloc);
     for key in keys {
         listed.push(Bytes::from_slice(alloc, *key)?)?;
     }
-    Ok(LineReply::Job(Reply::Listed(listed)))
+    let text = text_of(alloc, LineReply::Job(Reply::Listed(listed)))?;
+    Ok(text.as_slice() == want)
 }
 
 #[test]
-fn replies_of_keys(rt: HostRuntime) -> Result<(), Fail> {
+fn lists_of_keys(rt: HostRuntime) -> Result<(), Fail> {
     let alloc = rt.alloc();
-    let key = Bytes::from_slice(alloc, b"\x0a\xf0")?;
-    for (reply, want) in [
-        (LineReply::Job(Reply::Key(key)), "> next 0af0"),
-        (LineReply::Job(Reply::Key(Bytes::new(alloc))), "> next -"),
-        (listed(alloc, &[])?, "> list"),
-        (listed(alloc, &[b"\xab\x00"])?, "> list ab00"),
-        (listed(alloc, &[b""])?, "> list -"),
-        (
-            listed(alloc, &[b"", b"\x00", b"\x00\xff"])?,
-            "> list - 00 00ff",
-        ),
-    ] {
-        let text = text_of(alloc, reply)?;
-        assert_eq!(rt; text.as_slice(), want.as_bytes(), "{want}");
-    }
+    assert!(rt; is_listed(alloc, &[], b"> list")?);
+    assert!(rt; is_listed(alloc, &[b"\xab\x00"], b"> list ab00")?);
+    assert!(rt; is_listed(alloc, &[b""], b"> list -")?);
+    assert!(rt; is_listed(alloc, &[b"", b"\x00", b"\x00\xff"], b"> list - 00 00ff")?);
     Ok(())
 }
