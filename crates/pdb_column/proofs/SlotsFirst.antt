@@ -1,7 +1,7 @@
 -- Where a chunk is found full, the value that was to go there has its slots.
 use Rattle.std.proofs.Common.{◌≡◌, ◌++◌, ◌∷◌, List, ℕ, length, sym, subst, ◌∙◌}
 use Rattle.sdb_base.specs.declared.op.Op.{Op}
-use Rattle.sdb_base.specs.declared.op.Op.TheVariants.{AddRef, Put}
+use Rattle.sdb_base.specs.declared.op.Op.TheVariants.{AddRef, DropRef, Erase, Put}
 use Rattle.pdb_cells.specs.Content.{Content}
 use Rattle.pdb_model.specs.Tables.{placed}
 use Rattle.pdb_model.specs.Tiers.{tier_of}
@@ -15,7 +15,6 @@ use Rattle.pdb_column.specs.declared.fault.StepFault.{StepFault}
 use Rattle.pdb_column.specs.declared.fault.StepFault.TheVariants.{ChunkFull, Value}
 use Rattle.pdb_column.specs.inner.Faults.{AnyCell, AnyTier, StepSays, as_planned}
 use Rattle.pdb_column.specs.inner.Operations.{Crowds, HasItsSlots}
-use Rattle.pdb_column.proofs.Planned.{plan_sound}
 
 pub any_says : (e : ValueFault) → FaultSays AnyCell AnyTier e
 any_says OutOfMemory = tt
@@ -25,8 +24,10 @@ any_says (TierFull tier) = tt
 
 -- an operation stores under the key that it inserts
 stored_key : (column : ℕ) (content : ColumnMap) (op : Op) (key other bytes : List ℕ) → Inserts column content op key → Stores column op other bytes → other ≡ key
-stored_key column content (AddRef k b) key other bytes inserts stores = sym stores.1.0 ∙ inserts.1.0
-stored_key column content (Put k b) key other bytes inserts stores = sym stores.1.0 ∙ inserts.1.0
+stored_key column content (AddRef k b) key other bytes inserts stores = sym stores.1 ∙ inserts.1
+stored_key column content (DropRef k) key other bytes inserts stores = absurd stores
+stored_key column content (Put k b) key other bytes inserts stores = sym stores.1 ∙ inserts.1
+stored_key column content (Erase k) key other bytes inserts stores = absurd stores
 
 pub plan_slots : (P : Content → Type 0) (bases : ℕ → ℕ) (contents : ℕ → ColumnMap) (ops before left : List Op) (op : Op) (column : ℕ) (e : StepFault) → ops ≡ before ++ op ∷ left
     → StepSays NoCell AnyTier (Crowds bases (λ u. column_from u (contents u) before) op column) e
@@ -41,7 +42,17 @@ plan_slots P bases contents ops before left op column (ChunkFull bits chunk) is 
       x,
       p,
       record {
-        fills = plan_sound bases contents ops before left op column (ChunkFull bits chunk) is crowds;
+        fills = record {
+          before = before;
+          op = op;
+          left = left;
+          in_order = is;
+          key = crowds.key;
+          inserts = crowds.inserts;
+          bits_are = crowds.bits_are;
+          chunk_is = crowds.chunk_is;
+          crowded = crowds.crowded;
+        };
         bytes = bytes;
         stores = subst (λ k. Stores column op k bytes) e stores;
         table = slots.table;
