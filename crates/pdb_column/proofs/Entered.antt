@@ -1,5 +1,5 @@
 -- A value is placed, and its entry put into its key's chunk.
-use Rattle.std.proofs.Common.{◌≡◌, ◌≢◌, ◌∷◌, [], ◌^◌, ◌<◌, ◌≤◌, All, ℕ, List, Some, None, Result, Ok, Err, OnOk, false, length, sym, ap, subst, ◌∙◌, arith, inl, inr}
+use Rattle.std.proofs.Common.{◌≡◌, ◌≢◌, ◌^◌, ◌<◌, All, ℕ, List, Some, None, Result, Ok, Err, OnOk, false, length, sym, ap, subst, ◌∙◌, inl, inr}
 use Rattle.std.specs.Option.{option_map}
 use Rattle.std.specs.Prelude.{is_err, slice_get, slice_set}
 use Rattle.pdb_cells.specs.Content.{Content, put_cell}
@@ -7,12 +7,11 @@ use Rattle.pdb_model.specs.Chunks.{IsChunk, chunk_bytes, chunk_number, entry_of,
 use Rattle.pdb_model.specs.Columns.{Column}
 use Rattle.pdb_model.specs.Files.{OnlyTable, head_cell, index_file}
 use Rattle.pdb_model.specs.Heads.{IsHeadCell}
-use Rattle.pdb_model.specs.Tables.{IsTable, Slot, Table, next_slot, placed}
+use Rattle.pdb_model.specs.Tables.{Table, next_slot, placed}
 use Rattle.pdb_model.specs.Tiers.{tier_of}
 use Rattle.pdb_value.specs.Faults.{BreaksFreeList, FaultSays, HasTable, IsFullTier, NoCell}
 use Rattle.pdb_value.specs.declared.fault.ValueFault.{ValueFault}
 use Rattle.pdb_value.proofs.Broken.{says_more}
-use Rattle.pdb_value.proofs.Sound.{here, listed, table}
 use Rattle.pdb_column.specs.Damages.{BreaksColumn, IsFullChunk}
 use Rattle.pdb_column.specs.Holding.{HoldsColumn}
 use Rattle.pdb_column.specs.Maps.{ColumnMap, IsCrowded}
@@ -23,9 +22,10 @@ use Rattle.pdb_column.specs.inner.Steps.{with_under}
 use Rattle.pdb_column.proofs.Cells.{both_held, chunk_set}
 use Rattle.pdb_column.proofs.Crowding.{crowded, not_crowded, spelled_keys}
 use Rattle.pdb_column.proofs.Inserting.{inserting, tier_low}
-use Rattle.pdb_column.proofs.KeyChunks.{IsIn, in_picture, number_within}
+use Rattle.pdb_column.proofs.Finding.{chunk_within}
+use Rattle.pdb_column.proofs.KeyChunks.{in_picture, newest_is}
 use Rattle.pdb_column.proofs.OneColumn.{column_from_chunk, column_from_table, column_on}
-use Rattle.pdb_column.proofs.Places.{At, Nowhere, stands}
+use Rattle.pdb_value.proofs.Places.{At, Nowhere, stands}
 
 -- ---- the first empty place
 
@@ -53,9 +53,6 @@ at_ok (Err y) e h = absurd (cc)
 
 -- ---- room
 
-newest_is : (c : Column) (key : List ℕ) (b : ℕ) (entries : List ℕ) → IsIn c key b entries → c.newest (chunk_number c.bits key) ≡ entries
-newest_is c key b entries is = ap (λ n. c.newest (chunk_number n key)) is.bits_are ∙ is.newest
-
 pub crowded_in : (cells : Content) (column base b : ℕ) (content : ColumnMap) (key entries : List ℕ) → (holds : HoldsColumn cells column base content) → HasKeyChunk cells column key b entries
     → All (λ e. e ≢ 0) entries → IsCrowded content b key
 crowded_in cells column base b content key entries holds chunk full =
@@ -75,14 +72,10 @@ not_crowded_in cells column base b content key entries place holds chunk empty m
 
 -- ---- the step
 
-next_of : (slot : ℕ → Slot) (free : List ℕ) (end : ℕ) → IsTable (table slot free end) → 1 ≤ next_slot free end
-next_of slot [] end is = omega arith
-next_of slot (s ∷ rest) end is = let low = (listed (table slot (s ∷ rest) end) s is (here s rest)).0 in omega arith
-
 pub inserted_held : (cells mid : Content) (column b number tier slot entry : ℕ) (content : ColumnMap) (key entries new bytes : List ℕ) → (holds : HoldsColumn cells column b content) → HasKeyChunk cells column key b entries
     → tier ≡ tier_of (length bytes) → slot ≡ next_slot (holds.picture.tables (tier_of (length bytes))).free (holds.picture.tables (tier_of (length bytes))).end
     → OnlyTable column tier cells mid → IsHeadCell (head_cell mid column) → HasTable mid column tier (placed (holds.picture.tables (tier_of (length bytes))) key 1 bytes)
-    → content key ≡ None → (1 ≤ slot → entry ≡ entry_of b key tier slot) → entry < 2 ^ 64 → IsPutAt entries entry new → number ≡ chunk_number b key
+    → content key ≡ None → entry ≡ entry_of b key tier slot → entry < 2 ^ 64 → IsPutAt entries entry new → number ≡ chunk_number b key
     → IsChanged column b content key (Some (record { count = 1; bytes = bytes })) cells (put_cell (index_file column b) number (chunk_bytes new) mid)
 inserted_held cells mid column b number tier slot entry content key entries new bytes holds chunk tier_is slot_is only head there none entry_is small at number_is =
     let c : Column = holds.picture in
@@ -91,9 +84,8 @@ inserted_held cells mid column b number tier slot entry content key entries new 
     let low : to < 16 = tier_low (length bytes) in
     let in_it = in_picture cells column b b content key entries holds chunk in
     let same = newest_is c key b entries in_it in
-    let some : 1 ≤ slot = subst (λ s. 1 ≤ s) (sym slot_is) (next_of t.slot t.free t.end (holds.spelled.tables to low).is) in
     let is : entry ≡ entry_of c.base key to (next_slot t.free t.end) =
-    entry_is some ∙ (ap (λ k. entry_of b key k slot) tier_is ∙ (ap (λ s. entry_of b key to s) slot_is ∙ ap (λ n. entry_of n key to (next_slot t.free t.end)) (sym in_it.base_is))) in
+    entry_is ∙ (ap (λ k. entry_of b key k slot) tier_is ∙ (ap (λ s. entry_of b key to s) slot_is ∙ ap (λ n. entry_of n key to (next_slot t.free t.end)) (sym in_it.base_is))) in
     let set_is : slice_set (c.newest (chunk_number c.bits key)) at.place (entry_of c.base key to (next_slot t.free t.end)) ≡ new =
     ap (λ xs. slice_set xs at.place (entry_of c.base key to (next_slot t.free t.end))) same ∙ (ap (λ e. slice_set entries at.place e) (sym is) ∙ sym at.is) in
     let only_to = subst (λ k. OnlyTable column k cells mid) tier_is only in
@@ -103,7 +95,7 @@ inserted_held cells mid column b number tier slot entry content key entries new 
       holds = both_held cells mid column to b b number content (with_under content key (Some (record { count = 1; bytes = bytes }))) (placed t key 1 bytes) (chunk_number c.bits key)
           (slice_set (c.newest (chunk_number c.bits key)) at.place (entry_of c.base key to (next_slot t.free t.end))) new holds low only_to head there_to
           (inserting c content key 1 bytes at.place holds.is holds.fixed holds.holds none there_to.is (ap (λ xs. slice_get xs at.place) same ∙ at.empty))
-          (number_within c.bits key) (subst IsChunk (sym set_is) (chunk_set entries new at.place entry chunk.is_chunk small at.is)) in_it.bits_are (ap (λ n. chunk_number n key) in_it.bits_are ∙ sym number_is) set_is;
+          (chunk_within c.bits key) (subst IsChunk (sym set_is) (chunk_set entries new at.place entry chunk.is_chunk small at.is)) in_it.bits_are (ap (λ n. chunk_number n key) in_it.bits_are ∙ sym number_is) set_is;
     }
 
 -- ---- faults
@@ -117,7 +109,7 @@ full_chunk cells column b number key entries chunk full number_is = (
     spelled = chunk.spelled;
     keeps = chunk.keeps;
     is_file = ap (index_file column) (sym chunk.fixed.bits_are);
-    within = subst (λ n. number < 2 ^ n) (sym chunk.fixed.bits_are) (subst (λ n. n < 2 ^ b) (sym number_is) (number_within b key));
+    within = subst (λ n. number < 2 ^ n) (sym chunk.fixed.bits_are) (subst (λ n. n < 2 ^ b) (sym number_is) (chunk_within b key));
     is_chunk = chunk.is_chunk;
     bytes = ap (λ n. cells (index_file column b) n) number_is ∙ chunk.bytes;
   },

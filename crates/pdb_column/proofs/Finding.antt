@@ -1,5 +1,5 @@
 -- What the entries of a key's chunk say of the key.
-use Rattle.std.proofs.Common.{◌≡◌, ◌≢◌, ◌+◌, ◌-◌, ◌/◌, ◌<◌, ◌^◌, ℕ, List, Option, Some, None, length, refl, sym, ap, subst, ◌∙◌, arith, inl, inr}
+use Rattle.std.proofs.Common.{◌≡◌, ◌≢◌, ◌+◌, ◌-◌, ◌/◌, ◌<◌, ◌^◌, ℕ, List, Some, length, refl, sym, ap, subst, ◌∙◌, arith, inl, inr}
 use Rattle.std.specs.Prelude.{slice_get}
 use Rattle.std.proofs.Math.Nat.{mod-lt}
 use Rattle.std.proofs.lemmas.Nat.{pow_pos}
@@ -81,16 +81,3 @@ key_found c content key h is fixed holds long at =
       carries = subst (λ (k : List ℕ). CarriesKey c.base k e) key_is named.carries;
       held_is = holds;
     }
-
--- where no such entry names the key, nothing is held under it
-pub none_found : (c : Column) (content : ColumnMap) (key : List ℕ) → IsColumn c → IsFixed c → HoldsContent c content
-    → length key ≡ 32
-    → ((place e : ℕ) (h : Held) → slice_get (c.newest (chunk_number c.bits key)) place ≡ Some e → e ≢ 0 → CarriesKey c.base key e → held_by c e ≡ Some h → h.key ≡ key → ⊥)
-    → content key ≡ None
-none_found c content key is fixed holds long none = by (content key) refl
-  where
-    by : (x : Option Counted) → content key ≡ x → content key ≡ None
-    by None e = e
-    by (Some h) e =
-        let f = key_found c content key h is fixed holds long e in
-        absurd (none f.place.place f.entry (record { key = key; count = h.count; value = h.bytes }) f.stands f.has.not_empty f.carries f.held_is refl)

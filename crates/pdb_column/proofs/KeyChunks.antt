@@ -1,8 +1,6 @@
 -- A key's chunk, as it is read and in the picture that the cells spell.
 use Rattle.std.proofs.Common.{◌≡◌, ◌≢◌, ◌⊎◌, ◌∷◌, [], ◌<◌, ◌≤◌, ◌^◌, ℕ, List, Any, Some, length, refl, sym, ap, subst, ◌∙◌, arith, inl, inr}
-use Rattle.std.proofs.Math.Nat.{mod-lt}
 use Rattle.std.proofs.Math.Pow.{pow_mono}
-use Rattle.std.proofs.lemmas.Nat.{pow_pos}
 use Rattle.std.proofs.lemmas.Option.{slice_get-get_or}
 use Rattle.std.specs.Prelude.{slice_get}
 use Rattle.sdb_base.specs.Content.{Counted}
@@ -14,7 +12,7 @@ use Rattle.pdb_model.specs.Chunks.{CarriesKey, IsChunk, IsIndexEntry, chunk_byte
 use Rattle.pdb_model.specs.Columns.{Column, HasEntry, Place, end_of, held_by}
 use Rattle.pdb_model.specs.Files.{head_cell, index_file}
 use Rattle.pdb_model.specs.Heads.{Ends, Head, IsHead, IsHeadCell, SpellsHead}
-use Rattle.pdb_model.specs.Tables.{Held, first, held}
+use Rattle.pdb_model.specs.Tables.{Held, first}
 use Rattle.pdb_value.specs.Faults.{FaultSays, NoCell, NoTier}
 use Rattle.pdb_value.specs.declared.fault.ValueFault.{ValueFault}
 use Rattle.pdb_value.specs.declared.fault.ValueFault.TheVariants.{Damaged, Disk, OutOfMemory, TierFull}
@@ -24,14 +22,13 @@ use Rattle.pdb_column.specs.Damages.{BreaksColumn, HasOtherIndex}
 use Rattle.pdb_column.specs.Holding.{HoldsColumn}
 use Rattle.pdb_column.specs.Maps.{ColumnMap}
 use Rattle.pdb_column.specs.inner.KeyChunks.{HasKeyChunk, IsEntryOf, IsFixedHead, IsNoEntryOf, NamesHeld}
+use Rattle.pdb_column.proofs.Finding.{chunk_within, key_counted, key_found}
+use Rattle.pdb_column.proofs.Held.{one_held}
 
 -- ---- numbers of chunks
 
-pub number_within : (bits : ℕ) (key : List ℕ) → chunk_number bits key < 2 ^ bits
-number_within bits key = mod-lt _ (pow_pos bits)
-
 pub number_narrow : (bits : ℕ) (key : List ℕ) → bits ≤ 16 → chunk_number bits key < 2 ^ 32
-number_narrow bits key low = let most : 2 ^ bits ≤ 2 ^ 16 = pow_mono low in let in_it = number_within bits key in omega arith
+number_narrow bits key low = let most : 2 ^ bits ≤ 2 ^ 16 = pow_mono low in let in_it = chunk_within bits key in omega arith
 
 -- ---- heads
 
@@ -84,7 +81,7 @@ in_picture cells column base b content key entries holds chunk =
     let s = holds.spelled in
     let same = same_heads (head_cell cells column) s.head chunk.head s.head_spelled chunk.spelled in
     let bits : holds.picture.bits ≡ b = s.bits ∙ (same.1 ∙ chunk.fixed.bits_are) in
-    let low : chunk_number b key < 2 ^ holds.picture.bits = subst (λ n. chunk_number b key < 2 ^ n) (sym bits) (number_within b key) in
+    let low : chunk_number b key < 2 ^ holds.picture.bits = subst (λ n. chunk_number b key < 2 ^ n) (sym bits) (chunk_within b key) in
     let at = s.newest.chunks (chunk_number b key) low in
     record {
       base_is = s.base ∙ (same.0 ∙ chunk.fixed.base_is);
@@ -93,6 +90,9 @@ in_picture cells column base b content key entries holds chunk =
       within = low;
     }
 
+pub newest_is : (c : Column) (key : List ℕ) (b : ℕ) (entries : List ℕ) → IsIn c key b entries → c.newest (chunk_number c.bits key) ≡ entries
+newest_is c key b entries is = ap (λ n. c.newest (chunk_number n key)) is.bits_are ∙ is.newest
+
 -- the place of an entry of the key's chunk
 abbrev pub place_of : ℕ → List ℕ → ℕ → Place
 place_of base key i = record { bits = base; chunk = chunk_number base key; place = i }
@@ -100,7 +100,7 @@ place_of base key i = record { bits = base; chunk = chunk_number base key; place
 pub entry_in : (c : Column) (key : List ℕ) (base i e : ℕ) (entries : List ℕ) → IsIn c key base entries → e ≢ 0 → slice_get entries i ≡ Some e → HasEntry c (place_of base key i) e
 entry_in c key base i e entries is some at = record {
   not_empty = some;
-  within = number_within base key;
+  within = chunk_within base key;
   there = inl (sym is.bits_are, ap (λ xs. slice_get xs i) is.newest ∙ at);
 }
 
@@ -164,59 +164,22 @@ names cells column base b i e content key entries holds is at some =
 
 -- ---- what a column holds under a key
 
--- the entry of a key's value
-pub record IsFoundAt (c : Column) (key : List ℕ) (base : ℕ) (entries : List ℕ) (h : Counted) : Type 0 where
-  pub place : ℕ
-  pub entry : ℕ
-  pub there : slice_get entries place ≡ Some entry
-  pub not_empty : entry ≢ 0
-  pub carries : CarriesKey base key entry
-  pub holds : held_by c entry ≡ Some (record { key = key; count = h.count; value = h.bytes })
-
-one_held : (g h : Held) → Some g ≡ Some h → g ≡ h
-one_held g h e = cc
-
-in_use : (c : Column) (base i e : ℕ) (p : Place) (entries key : List ℕ) → c.growing ≡ 0 → IsIn c key base entries → HasEntry c p e → chunk_number p.bits key ≡ p.chunk → slice_get entries p.place ≡ Some e
-in_use c base i e p entries key fixed is has at =
-    elim has.there [
-      | inl here ↦ sym (ap (λ xs. slice_get xs p.place) is.newest) ∙ (ap (λ n. slice_get (c.newest n) p.place) (ap (λ n. chunk_number n key) (sym is.bits_are ∙ sym here.0) ∙ at) ∙ here.1)
-      | inr grows ↦ absurd (let one = grows.0 in omega arith)
-    ]
-
-pub found_in : (cells : Content) (column base b : ℕ) (content : ColumnMap) (key entries : List ℕ) (h : Counted) → (holds : HoldsColumn cells column base content) → IsIn holds.picture key b entries
-    → length key ≡ 32 → content key ≡ Some h → IsFoundAt holds.picture key b entries h
-found_in cells column base b content key entries h holds is len there =
-    let c = holds.picture in
-    let want : Held = record { key = key; count = h.count; value = h.bytes } in
-    let under = holds.holds.there key h len there in
-    let named = holds.is.found under.0 under.1 want under.2 under.3 in
-    let said = holds.is.named named.0 named.1 named.2 in
-    let same : held_by c named.1 ≡ Some want = ap (λ t. held ((c.tables t).slot (entry_slot named.1))) named.3 ∙ (ap (λ s. held ((c.tables under.0).slot s)) named.4 ∙ under.3) in
-    let key_is : said.1.0.key ≡ key = ap (λ (h : Held). h.key) (one_held said.1.0 want (sym said.1.1 ∙ same)) in
-    record {
-      place = named.0.place;
-      entry = named.1;
-      there = in_use c b 0 named.1 named.0 entries key holds.fixed.not_growing is named.2 (ap (chunk_number named.0.bits) (sym key_is) ∙ said.1.2);
-      not_empty = named.2.not_empty;
-      carries = said.1.3 ∙ (ap (Rattle.pdb_model.specs.Chunks.bits_at c.base 24) key_is ∙ ap (λ n. Rattle.pdb_model.specs.Chunks.bits_at n 24 key) is.base_is);
-      holds = same;
-    }
-
 -- what the slot of a key's entry holds is the column's value of the key
 pub held_under : (cells : Content) (column base b i e : ℕ) (content : ColumnMap) (key entries : List ℕ) (h : Held) → (holds : HoldsColumn cells column base content) → IsIn holds.picture key b entries
     → slice_get entries i ≡ Some e → e ≢ 0 → held_by holds.picture e ≡ Some h → h.key ≡ key → content key ≡ Some (record { count = h.count; bytes = h.value })
 held_under cells column base b i e content key entries h holds is at some named key_is =
-    let n = holds.is.named (place_of b key i) e (entry_in holds.picture key b i e entries is some at) in
-    holds.holds.no_other key (record { count = h.count; bytes = h.value })
-    (entry_tier e, entry_slot e, tier_low (end_of holds.picture) e some n.0, named ∙ ap (λ k. Some (record { key = k; count = h.count; value = h.value })) key_is)
+    key_counted holds.picture content (place_of b key i) e h key holds.is holds.holds (entry_in holds.picture key b i e entries is some at) named key_is
 
 -- where no entry's slot holds the key, the column has nothing under it
 pub no_value : (cells : Content) (column base b : ℕ) (content : ColumnMap) (key entries : List ℕ) (h : Counted) → (holds : HoldsColumn cells column base content) → IsIn holds.picture key b entries
     → length key ≡ 32 → ((i e : ℕ) (h : Held) → slice_get entries i ≡ Some e → e ≢ 0 → NamesHeld cells column e h → CarriesKey b key e → h.key ≢ key) → content key ≡ Some h → ⊥
 no_value cells column base b content key entries h holds is len none there =
-    let f = found_in cells column base b content key entries h holds is len there in
-    let n = names cells column base b f.place f.entry content key entries holds is f.there f.not_empty in
-    none f.place f.entry n.h f.there f.not_empty n.named f.carries (ap (λ (h : Held). h.key) (one_held n.h (record { key = key; count = h.count; value = h.bytes }) (sym n.holds ∙ f.holds)))
+    let c : Column = holds.picture in
+    let f = key_found c content key h holds.is holds.fixed holds.holds len there in
+    let at : slice_get entries f.place.place ≡ Some f.entry = ap (λ xs. slice_get xs f.place.place) (sym (newest_is c key b entries is)) ∙ f.stands in
+    let carries : CarriesKey b key f.entry = subst (λ n. CarriesKey n key f.entry) is.base_is f.carries in
+    let n = names cells column base b f.place.place f.entry content key entries holds is at f.has.not_empty in
+    none f.place.place f.entry n.h at f.has.not_empty n.named carries (ap (λ (h : Held). h.key) (one_held n.h (record { key = key; count = h.count; value = h.bytes }) (sym n.holds ∙ f.held_is)))
 
 -- ---- faults of reading a chunk
 
@@ -242,7 +205,7 @@ broken_entry cells column base key head entries is chunk (k, x, low, at, breaks)
         spelled = chunk.spelled;
         keeps = chunk.keeps;
         is_file = ap (index_file column) (sym chunk.fixed.bits_are);
-        within = subst (λ n. chunk_number base key < 2 ^ n) (sym chunk.fixed.bits_are) (number_within base key);
+        within = subst (λ n. chunk_number base key < 2 ^ n) (sym chunk.fixed.bits_are) (chunk_within base key);
         is_chunk = chunk.is_chunk;
         bytes = chunk.bytes;
       },

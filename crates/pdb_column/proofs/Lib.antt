@@ -1,5 +1,4 @@
 pub mod Cases
-pub mod Places
 pub mod Held
 pub mod Freed
 pub mod Taken
@@ -22,3 +21,4 @@ pub mod Hits
 pub mod Entered
 pub mod Located
 pub mod Planned
+pub mod SlotsFirst

@@ -7,7 +7,7 @@ use Rattle.pdb_model.specs.Tables.{Slot, Whole, Parted, Part, Loose, Table, IsTa
 use Rattle.pdb_model.specs.Tiers.{parts_tier, tier_of}
 use Rattle.pdb_column.proofs.Cases.{elsewhere, same_or, there}
 use Rattle.pdb_column.proofs.Held.{Changes, whole_settled}
-use Rattle.pdb_column.proofs.Places.{At, Nowhere, stands}
+use Rattle.pdb_value.proofs.Places.{At, Nowhere, stands}
 use Rattle.pdb_column.proofs.Taken.{old_kept, part_open, table_open}
 
 -- ---- a value's table is of its tier

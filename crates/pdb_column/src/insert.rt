@@ -6,8 +6,8 @@ ghost use Rattle.pdb_value.specs.Faults.{Drafts, IsFullTier, NoCell};
 ghost use Rattle.pdb_column.specs.Damages.{BreaksColumn, IsFullChunk};
 ghost use Rattle.pdb_column.specs.Holding.{HoldsColumn};
 ghost use Rattle.pdb_column.specs.Maps.{ColumnMap, IsCrowded};
-ghost use Rattle.pdb_column.specs.inner.Changes.{IsChanged};
-ghost use Rattle.pdb_column.specs.inner.Faults.{AnyTier, StepSays, step_disk_fails};
+ghost use Rattle.pdb_column.specs.inner.Changes.{IsChanged, IsPlaced};
+ghost use Rattle.pdb_column.specs.inner.Faults.{AnyCell, AnyTier, StepSays, step_disk_fails};
 ghost use Rattle.pdb_column.specs.inner.KeyChunks.{HasKeyChunk};
 
 use crate::fault::StepFault;
@@ -18,15 +18,14 @@ use pdb_model::Address;
 use pdb_value::{ValueFault, place};
 use std::alloc::Global;
 
-// the entry of a value that was placed; no slot is 0
+// the entry of a value that was placed
 fn entry_at(base: u8, key: &[u8; 32], at: Address) -> u64
     requires base { base ≤ 16 }
     requires tier { at.tier ≤ 15 }
-    ensures { 1 ≤ at.slot → result ≡ entry_of base key.now at.tier at.slot }
+    requires slot { 1 ≤ at.slot }
+    ensures { result ≡ entry_of base key.now at.tier at.slot }
 {
-    let slot = at.slot.max(1);
-    let tier = at.tier;
-    entry(base, key, Address { tier, slot })
+    entry(base, key, at)
 }
 
 /// Places a value under a key that has none: its slots are taken first, and then its entry is put into the key's chunk.
@@ -60,6 +59,10 @@ pub(crate) fn insert<C: Cells>(
         → HasKeyChunk cells column key.now chunk.old.base chunk.old.entries.items
         → IfErr result (StepSays NoCell AnyTier (λ bits n. (bits ≡ chunk.old.base) × (n ≡ chunk_number bits key.now)
         × IsCrowded content bits key.now × All (λ e. e ≢ 0) chunk.old.entries.items)) }
+    ensures slots_first { (cells : Content) (content : ColumnMap) → Drafts d.old.puts (C.seen d.old.under.now) cells
+        → HoldsColumn cells column chunk.old.base content
+        → IfErr result (StepSays AnyCell AnyTier (λ bits n. (after : Content) × Drafts d.new.puts (C.seen d.new.under.now) after
+        × IsPlaced after column key.now bytes.now)) }
     ensures faults { (cells : Content) → Drafts d.old.puts (C.seen d.old.under.now) cells
         → HasKeyChunk cells column key.now chunk.old.base chunk.old.entries.items
         → IfErr result (StepSays (λ file cell. (after : Content) × Drafts d.new.puts (C.seen d.new.under.now) after

@@ -7,8 +7,8 @@ ghost use Rattle.pdb_value.specs.Faults.{Drafts, FaultSays, IsFullTier, NoCell, 
 ghost use Rattle.pdb_column.specs.Damages.{BreaksColumn, IsFullChunk};
 ghost use Rattle.pdb_column.specs.Holding.{HoldsColumn};
 ghost use Rattle.pdb_column.specs.Maps.{ColumnMap, IsCrowded};
-ghost use Rattle.pdb_column.specs.inner.Changes.{IsChanged};
-ghost use Rattle.pdb_column.specs.inner.Faults.{AnyTier, StepSays, step_disk_fails};
+ghost use Rattle.pdb_column.specs.inner.Changes.{IsChanged, IsPlaced};
+ghost use Rattle.pdb_column.specs.inner.Faults.{AnyCell, AnyTier, StepSays, step_disk_fails};
 
 use crate::fault::StepFault;
 use crate::insert::insert;
@@ -40,6 +40,10 @@ pub(crate) fn add_node<C: Cells>(
         → Drafts d.old.puts (C.seen d.old.under.now) cells → HoldsColumn cells 0 base content
         → IfErr result (StepSays NoCell AnyTier (λ bits n. (content key.now ≡ None) × (bits ≡ base)
         × (n ≡ chunk_number bits key.now) × IsCrowded content bits key.now)) }
+    ensures slots_first { (cells : Content) (base : ℕ) (content : ColumnMap)
+        → Drafts d.old.puts (C.seen d.old.under.now) cells → HoldsColumn cells 0 base content
+        → IfErr result (StepSays AnyCell AnyTier (λ bits n. (after : Content) × Drafts d.new.puts (C.seen d.new.under.now) after
+        × IsPlaced after 0 key.now bytes.now)) }
     ensures faults { (cells : Content) → Drafts d.old.puts (C.seen d.old.under.now) cells
         → IfErr result (StepSays (λ file cell. (after : Content) × Drafts d.new.puts (C.seen d.new.under.now) after
         × BreaksColumn after 0 file cell)
@@ -110,6 +114,10 @@ pub(crate) fn put_plain<C: Cells>(
         → ((h : Counted) → content key.now ≡ Some h → h.count ≡ 1)
         → IfErr result (StepSays NoCell AnyTier (λ bits n. (content key.now ≡ None) × (bits ≡ base)
         × (n ≡ chunk_number bits key.now) × IsCrowded content bits key.now)) }
+    ensures slots_first { (cells : Content) (base : ℕ) (content : ColumnMap)
+        → Drafts d.old.puts (C.seen d.old.under.now) cells → HoldsColumn cells 1 base content
+        → IfErr result (StepSays AnyCell AnyTier (λ bits n. (after : Content) × Drafts d.new.puts (C.seen d.new.under.now) after
+        × IsPlaced after 1 key.now bytes.now)) }
     ensures faults { (cells : Content) → Drafts d.old.puts (C.seen d.old.under.now) cells
         → IfErr result (StepSays (λ file cell. (after : Content) × Drafts d.new.puts (C.seen d.new.under.now) after
         × BreaksColumn after 1 file cell)

@@ -1,9 +1,10 @@
 ghost use Rattle.std.specs.Prelude.{◌≡◌, ◌≤◌, ◌<◌, ◌^◌, All, IfOk, Some, length};
+ghost use Rattle.pdb_cells.specs.Puts.{IsWholeCell};
 ghost use Rattle.pdb_cells.specs.Sizes.{size_of};
 ghost use Rattle.pdb_column.specs.Answers.{IsStorable};
 
 use super::*;
-use pdb_cells::{CellName, Cells, Draft, HEAD_FILE, MapCells, OutOfMemory};
+use pdb_cells::{CellName, Cells, Draft, HEAD_FILE, MapCells, OutOfMemory, Puts};
 use sdb_base::{Bytes, NodeHash, Op, Ops};
 use sdb_blake2::hash256;
 use std::alloc::Global;
@@ -251,6 +252,91 @@ fn the_disk_fails(rt: HostRuntime) -> Result<(), Fail> {
         let mut out = Vec::new(rt.alloc());
         let looked = get(rt.alloc(), &mut cells, 0, &node_key(1), &mut out);
         assert_eq!(rt; (looked, cells.faults()), (Err(ColumnFault::Disk), 1));
+    }
+    Ok(())
+}
+
+// cells in which so many steps, each this one, have been planned
+#[derive(Clone, Copy)]
+struct Made(u8, Step);
+
+// sets the cells that were put
+fn set_all(cells: &mut MapCells, puts: &Puts) -> Result<(), OutOfMemory>
+    requires { All IsWholeCell puts.now }
+{
+    for put in puts.as_slice() {
+        cells.set(put.name, put.bytes.as_slice())?;
+    }
+    Ok(())
+}
+
+// plans a step so many times
+fn repeat(alloc: Global, d: &mut Draft<'_, MapCells>, made: Made) -> Result<(), PlanFault> {
+    for _ in 0..made.0 {
+        run(alloc, d, made.1)?;
+    }
+    Ok(())
+}
+
+fn make(alloc: Global, made: Made) -> Result<MapCells, OutOfMemory> {
+    let mut first = columns(alloc)?;
+    let mut draft = Draft::new(alloc, &mut first);
+    let done = repeat(alloc, &mut draft, made);
+    let puts = draft.finish();
+    let mut cells = columns(alloc)?;
+    if done.is_ok() {
+        set_all(&mut cells, &puts)?;
+    }
+    Ok(cells)
+}
+
+// what a step answers where a call of the disk fails, and how many faults there were
+fn run_failing(
+    alloc: Global,
+    made: Made,
+    step: Step,
+    call: u64,
+) -> Result<(Result<(), PlanFault>, u64), OutOfMemory> {
+    let mut cells = make(alloc, made)?;
+    cells.fail_at(call)?;
+    let mut draft = Draft::new(alloc, &mut cells);
+    let done = run(alloc, &mut draft, step);
+    draft.finish();
+    Ok((done, cells.faults()))
+}
+
+// How many calls of the disk a step makes: a failure of any of them is answered, with one fault, and that of a later one
+// isn't met. None where that isn't so.
+fn calls_of(alloc: Global, made: Made, step: Step) -> Result<Option<u64>, OutOfMemory> {
+    for call in 0..16u64 {
+        match run_failing(alloc, made, step, call)? {
+            (Err(PlanFault::Disk), 1) => {}
+            (Ok(()), 0) => return Ok(Some(call)),
+            _ => return Ok(None),
+        }
+    }
+    Ok(None)
+}
+
+#[test]
+fn a_plan_stops_where_the_disk_fails(rt: HostRuntime) -> Result<(), Fail> {
+    let node = Step::Add(1);
+    let plain = Step::Put(1, 5);
+    for (made, step, calls) in [
+        // the head cell and the chunk, and the head cell where a slot is taken
+        (Made(0, node), node, 3u64),
+        (Made(0, plain), plain, 3),
+        // the head cell and the chunk; the head cell and the slot of the entry, and both once more for the value
+        (Made(1, node), node, 6),
+        (Made(2, node), Step::Drop(1), 6),
+        (Made(1, plain), Step::Put(1, 20), 6),
+        // beside those the head cell where the slot is freed, which the draft has where one is taken after that
+        (Made(1, node), Step::Drop(1), 7),
+        (Made(1, plain), Step::Put(1, 21), 7),
+        (Made(1, plain), Step::Erase(1), 7),
+    ] {
+        let found = calls_of(rt.alloc(), made, step);
+        assert_eq!(rt; found, Ok(Some(calls)));
     }
     Ok(())
 }

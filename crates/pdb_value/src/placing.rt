@@ -1,4 +1,4 @@
-ghost use Rattle.std.specs.Prelude.{◌≡◌, ◌≤◌, ◌<◌, ◌+◌, ℕ, List, IfOk, OnOk, IfErr, length, slice_index};
+ghost use Rattle.std.specs.Prelude.{◌≡◌, ◌≤◌, ◌<◌, ◌+◌, ℕ, List, All, IfOk, OnOk, IfErr, length, slice_index};
 ghost use Rattle.sdb_io.specs.Faults.{CountsFault};
 ghost use Rattle.pdb_cells.specs.Content.{Content};
 ghost use Rattle.pdb_model.specs.Files.{OnlyTable, head_cell};
@@ -30,6 +30,7 @@ fn take_slots<C: Cells>(
     ensures keeps { C.same d.old.under.now d.new.under.now }
     ensures counted { CountsFault (disk_fails result) (C.fault_count d.old.under.now) (C.fault_count d.new.under.now) }
     ensures len { IfOk result (λ slots. length slots.items ≡ count) }
+    ensures slots { IfOk result (λ slots. All (λ slot. 1 ≤ slot) slots.items) }
     ensures taken { (cells : Content) → Drafts d.old.puts (C.seen d.old.under.now) cells
         → IfOk result (λ slots. (after : Content) × Drafts d.new.puts (C.seen d.new.under.now) after × AreTaken column count cells after slots.items) }
     ensures faults { (cells : Content) → Drafts d.old.puts (C.seen d.old.under.now) cells
@@ -100,6 +101,7 @@ fn place_whole<C: Cells>(
     ensures same_reference { d.new.under.ghost_name ≡ d.old.under.ghost_name }
     ensures keeps { C.same d.old.under.now d.new.under.now }
     ensures counted { CountsFault (disk_fails result) (C.fault_count d.old.under.now) (C.fault_count d.new.under.now) }
+    ensures slot { IfOk result (λ slot. 1 ≤ slot) }
     ensures only { (cells : Content) → Drafts d.old.puts (C.seen d.old.under.now) cells
         → OnOk result ((after : Content) × Drafts d.new.puts (C.seen d.new.under.now) after × OnlyTable column tier cells after
         × IsHeadCell (head_cell after column)) }
@@ -135,6 +137,7 @@ fn place_parts<C: Cells>(
     ensures same_reference { d.new.under.ghost_name ≡ d.old.under.ghost_name }
     ensures keeps { C.same d.old.under.now d.new.under.now }
     ensures counted { CountsFault (disk_fails result) (C.fault_count d.old.under.now) (C.fault_count d.new.under.now) }
+    ensures slot { IfOk result (λ slot. 1 ≤ slot) }
     ensures only { (cells : Content) → Drafts d.old.puts (C.seen d.old.under.now) cells
         → OnOk result ((after : Content) × Drafts d.new.puts (C.seen d.new.under.now) after × OnlyTable column parts_tier cells after
         × IsHeadCell (head_cell after column)) }
@@ -182,6 +185,7 @@ pub fn place<C: Cells>(
     ensures keeps { C.same d.old.under.now d.new.under.now }
     ensures counted { CountsFault (disk_fails result) (C.fault_count d.old.under.now) (C.fault_count d.new.under.now) }
     ensures tier { IfOk result (λ at. at.tier ≡ tier_of (length bytes.now)) }
+    ensures slot { IfOk result (λ at. 1 ≤ at.slot) }
     ensures only { (cells : Content) → Drafts d.old.puts (C.seen d.old.under.now) cells
         → IfOk result (λ at. (after : Content) × Drafts d.new.puts (C.seen d.new.under.now) after × OnlyTable column at.tier cells after
         × IsHeadCell (head_cell after column)) }

@@ -61,6 +61,7 @@ pub(crate) fn take_slot<C: Cells>(
     ensures same_reference { d.new.under.ghost_name ≡ d.old.under.ghost_name }
     ensures keeps { C.same d.old.under.now d.new.under.now }
     ensures counted { CountsFault (disk_fails result) (C.fault_count d.old.under.now) (C.fault_count d.new.under.now) }
+    ensures slot { IfOk result (λ slot. 1 ≤ slot) }
     ensures taken { (cells : Content) → Drafts d.old.puts (C.seen d.old.under.now) cells
         → IfOk result (λ slot. (after : Content) × Drafts d.new.puts (C.seen d.new.under.now) after × IsSlotTaken column tier cells after slot) }
     ensures faults { (cells : Content) → Drafts d.old.puts (C.seen d.old.under.now) cells

@@ -1,4 +1,4 @@
-use sdb_base::{Block, BlockId, Bytes, NodeHash};
+use sdb_base::{Block, BlockId, Bytes, Keys, NodeHash};
 
 /// What one job is to do.
 #[derive(Debug, Drop)]
@@ -11,6 +11,20 @@ pub enum Task {
         id: BlockId,
         /// The key.
         key: Bytes,
+    },
+    /// The least key above a key in a block's state.
+    Next {
+        /// The block.
+        id: BlockId,
+        /// The key, which the state may have or not.
+        key: Bytes,
+    },
+    /// The keys with a prefix in a block's state.
+    List {
+        /// The block.
+        id: BlockId,
+        /// The prefix; no bytes are the prefix of every key.
+        prefix: Bytes,
     },
     /// The root of a block's state.
     Root {
@@ -26,8 +40,12 @@ pub enum Reply {
     Imported(u64),
     /// The key's value.
     Value(Bytes),
-    /// The block's state hasn't the key.
+    /// The least key above the one asked for.
+    Key(Bytes),
+    /// The block's state hasn't the key, or no key above it.
     Nothing,
+    /// The keys with the prefix, in rising order.
+    Listed(Keys),
     /// The root of the block's state.
     Root(NodeHash),
     /// The job was refused, and changed nothing.
@@ -43,4 +61,13 @@ pub enum Refusal {
     AlreadyExists,
     /// 4: no accepted block has the parent's id.
     UnknownParent,
+    /// 6: so many blocks have the block's number already as may have it, 32.
+    TooManySiblings {
+        /// The number.
+        number: u64,
+    },
+    /// 9: a genesis was read already.
+    HasGenesis,
+    /// 10: no genesis was read yet.
+    NoGenesis,
 }

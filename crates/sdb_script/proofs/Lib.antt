@@ -1,7 +1,9 @@
 pub mod Changing
+pub mod ChangesWithin
 pub mod Cuts
 pub mod Decimals
 pub mod Digits
+pub mod ListedKeys
 pub mod Longer
 pub mod OnLiterals
 pub mod Spelled

@@ -1,8 +1,8 @@
 -- The line of a text keeps the limits.
-use Rattle.std.proofs.Common.{◌≡◌, ℕ, suc, ◌≤◌, Bool, true, false, ◌&&◌, cond, List, [], ◌∷◌, length, Some, None, Result, Ok, Err, refl, ap, subst, arith}
+use Rattle.std.proofs.Common.{◌≡◌, ℕ, ◌≤◌, ◌&&◌, cond, List, [], ◌∷◌, length, Some, None, Result, Ok, Err, refl, subst, arith}
 use Rattle.std.specs.Prelude.{All, IfOk, nat_le, nat_lt, codes}
 use Rattle.std.specs.Option.{option_map}
-use Rattle.std.specs.List.{AllByRecursion, after_first, before_first, list_any}
+use Rattle.std.specs.List.{AllByRecursion}
 use Rattle.std.specs.Str.{bytes_eq}
 use Rattle.std.proofs.lemmas.Bool.{and_parts, leb-true}
 use Rattle.std.proofs.lemmas.List.Elements.{All-cons, All-nil}
@@ -10,66 +10,18 @@ use Rattle.std.proofs.lemmas.Option.{none-some, same_Some}
 use Rattle.sdb_base.specs.declared.BlockId.{BlockId}
 use Rattle.sdb_base.specs.declared.Change.{Change}
 use Rattle.sdb_model.specs.Limits.{ChangeIsWithin}
-use Rattle.sdb_model.specs.declared.Task.TheVariants.{Import, Read, Root}
+use Rattle.sdb_model.specs.declared.Task.TheVariants.{Import, Read, Next, List as Listing, Root}
 use Rattle.sdb_script.specs.declared.line.Line.{Line}
 use Rattle.sdb_script.specs.declared.line.Line.TheVariants.{Blank, New, Genesis, Job}
 use Rattle.sdb_script.specs.declared.line.LineFault.{LineFault}
 use Rattle.sdb_script.specs.declared.line.LineFault.TheVariants.{NotInGrammar, OutOfMemory}
 use Rattle.sdb_script.specs.inner.Reading.{IsParsed}
-use Rattle.sdb_script.specs.Grammar.{block_with, changes_of, each_change, genesis_line, import_line, is_blank, line_of, line_of_words, most_changes, most_in_line, new_line, no_parent, read_line, root_line, words_of}
-use Rattle.sdb_script.specs.LineTexts.{IsBlock, IsChange, IsId, IsWithin}
+use Rattle.sdb_script.specs.Grammar.{block_with, changes_of, genesis_line, id_and_key, import_line, is_blank, line_of, line_of_words, list_line, most_changes, most_in_line, new_line, next_line, no_parent, read_line, root_line, words_of}
+use Rattle.sdb_script.specs.LineTexts.{HasAtMost, IsBlock, IsChange, IsId, IsWithin}
 use Rattle.sdb_script.specs.Numbers.{number_spelled, number_within}
-use Rattle.sdb_script.specs.Words.{bytes_of, change_of, change_to, deletion_of, id_of, is_equals, is_exclamation, most_in_key, most_in_value, setting_of}
+use Rattle.sdb_script.specs.Words.{bytes_of, id_of, most_in_key}
+use Rattle.sdb_script.proofs.ChangesWithin.{changes_within}
 use Rattle.sdb_script.proofs.Within.{bytes_within, chosen, id_within, map_some, passed, then_some, zeros_are_bytes}
-
--- ---- changes
-
-set_within : (w : List ℕ) (c : Change) → setting_of w ≡ Some c → IsChange c
-set_within w c h =
-    let k = then_some _ (bytes_of most_in_key (before_first is_equals w)) c h in
-    let v = map_some (λ value. change_to k.0 (Some value)) (bytes_of most_in_value (after_first is_equals w)) c k.2 in
-    let key = bytes_within most_in_key (before_first is_equals w) k.0 k.1 in
-    let value = bytes_within most_in_value (after_first is_equals w) v.0 v.1 in
-    subst IsChange v.2 (record {
-      trie = refl;
-      within = record { short_key = key.0; short_value = value.0 };
-      key = key.1;
-      value = value.1;
-    })
-
-delete_within : (w : List ℕ) (c : Change) → deletion_of w ≡ Some c → IsChange c
-delete_within w c h =
-    chosen IsChange _ (option_map (λ key. change_to key None) (bytes_of most_in_key (before_first is_exclamation w))) None c h
-    (λ e. let k = map_some (λ key. change_to key None) (bytes_of most_in_key (before_first is_exclamation w)) c e in
-    let key = bytes_within most_in_key (before_first is_exclamation w) k.0 k.1 in
-    subst IsChange k.2 (record { trie = refl; within = record { short_key = key.0; short_value = tt }; key = key.1; value = tt }))
-    (λ e. absurd (none-some c e))
-
-change_within : (w : List ℕ) (c : Change) → change_of w ≡ Some c → IsChange c
-unfolding change_of
-change_within w c h =
-    chosen IsChange (list_any is_equals w) (setting_of w) (deletion_of w) c h (set_within w c) (delete_within w c)
-
-each_within : (ws : List (List ℕ)) (cs : List Change) → each_change ws ≡ Some cs → AllByRecursion IsChange cs × (length cs ≡ length ws)
-unfolding each_change
-each_within [] cs h = let e : [] ≡ cs = same_Some [] cs h in rw (← e) (tt, refl)
-each_within (w ∷ ws) cs h =
-    let c = then_some (λ c. option_map (λ rest. c ∷ rest) (each_change ws)) (change_of w) cs h in
-    let rest = map_some (λ rest. c.0 ∷ rest) (each_change ws) cs c.2 in
-    let others = each_within ws rest.0 rest.1 in
-    let e : c.0 ∷ rest.0 ≡ cs = rest.2 in
-    rw (← e) ((change_within w c.0 c.1, others.0), ap suc others.1)
-
-few_changes : (ws : List (List ℕ)) (cs : List Change) (few : Bool) → nat_le (length ws) most_changes ≡ few → cond few (each_change ws) None ≡ Some cs
-    → AllByRecursion IsChange cs × (length cs ≤ most_changes)
-few_changes ws cs true e h = let each = each_within ws cs h in (each.0, omega (arith, each.1, leb-true (length ws) most_changes e))
-few_changes ws cs false e h = absurd (none-some cs h)
-
-changes_within : (ws : List (List ℕ)) (cs : List Change) → changes_of ws ≡ Some cs → AllByRecursion IsChange cs × (length cs ≤ most_changes)
-unfolding changes_of
-changes_within ws cs h = few_changes ws cs (nat_le (length ws) most_changes) refl h
-
--- ---- lines
 
 number_within_is : (low high : ℕ) (w : List ℕ) (n : ℕ) → number_within low high w ≡ Some n → (low ≤ n) × (n ≤ high)
 number_within_is low high w n h =
@@ -120,15 +72,26 @@ import_is (i ∷ (p ∷ cs)) line h =
     let changes = map_some (λ changes. Job (Import (block_with id.0 parent.0 changes))) (changes_of cs) line parent.2 in
     subst IsWithin changes.2 (block_is id.0 parent.0 changes.0 (id_within i id.0 id.1) (id_within p parent.0 parent.1) (changes_within cs changes.0 changes.1))
 
-read_is : (ws : List (List ℕ)) (line : Line) → read_line ws ≡ Some line → IsWithin line
-unfolding read_line
-read_is [] line h = absurd (none-some line h)
-read_is (i ∷ []) line h = absurd (none-some line h)
-read_is (i ∷ (k ∷ [])) line h =
-    let id = then_some _ (id_of i) line h in
-    let key = map_some (λ key. Job (Read id.0 key)) (bytes_of most_in_key k) line id.2 in
-    subst IsWithin key.2 (id_within i id.0 id.1, bytes_within most_in_key k key.0 key.1)
-read_is (i ∷ (k ∷ (w ∷ ws))) line h = absurd (none-some line h)
+-- a block and the bytes that are asked for in its state
+abbrev Asked : BlockId × List ℕ → Type 0
+Asked asked = IsId asked.0 × HasAtMost most_in_key asked.1
+
+asked_within : (ws : List (List ℕ)) (asked : BlockId × List ℕ) → id_and_key ws ≡ Some asked → Asked asked
+unfolding id_and_key
+asked_within [] asked h = absurd (none-some asked h)
+asked_within (i ∷ []) asked h = absurd (none-some asked h)
+asked_within (i ∷ (k ∷ [])) asked h =
+    let id = then_some _ (id_of i) asked h in
+    let key = map_some (λ key. (id.0, key)) (bytes_of most_in_key k) asked id.2 in
+    subst Asked key.2 (id_within i id.0 id.1, bytes_within most_in_key k key.0 key.1)
+asked_within (i ∷ (k ∷ (w ∷ ws))) asked h = absurd (none-some asked h)
+
+-- the line that is made of them
+asked_is : (made : BlockId × List ℕ → Line) → ((asked : BlockId × List ℕ) → Asked asked → IsWithin (made asked)) → (ws : List (List ℕ)) (line : Line)
+    → option_map made (id_and_key ws) ≡ Some line → IsWithin line
+asked_is made within ws line h =
+    let asked = map_some made (id_and_key ws) line h in
+    subst IsWithin asked.2 (within asked.0 (asked_within ws asked.0 asked.1))
 
 root_is : (ws : List (List ℕ)) (line : Line) → root_line ws ≡ Some line → IsWithin line
 unfolding root_line
@@ -145,9 +108,11 @@ words_are (w ∷ ws) line h =
     chosen IsWithin (bytes_eq w (codes "new")) (new_line ws) _ line h (new_is ws line)
     (λ h1. chosen IsWithin (bytes_eq w (codes "genesis")) (genesis_line ws) _ line h1 (genesis_is ws line)
     (λ h2. chosen IsWithin (bytes_eq w (codes "import")) (import_line ws) _ line h2 (import_is ws line)
-    (λ h3. chosen IsWithin (bytes_eq w (codes "read")) (read_line ws) _ line h3 (read_is ws line)
-    (λ h4. chosen IsWithin (bytes_eq w (codes "root")) (root_line ws) None line h4 (root_is ws line)
-    (λ h5. absurd (none-some line h5))))))
+    (λ h3. chosen IsWithin (bytes_eq w (codes "read")) (read_line ws) _ line h3 (asked_is (λ asked. Job (Read asked.0 asked.1)) (λ asked within. within) ws line)
+    (λ h4. chosen IsWithin (bytes_eq w (codes "next")) (next_line ws) _ line h4 (asked_is (λ asked. Job (Next asked.0 asked.1)) (λ asked within. within) ws line)
+    (λ h5. chosen IsWithin (bytes_eq w (codes "list")) (list_line ws) _ line h5 (asked_is (λ asked. Job (Listing asked.0 asked.1)) (λ asked within. within) ws line)
+    (λ h6. chosen IsWithin (bytes_eq w (codes "root")) (root_line ws) None line h6 (root_is ws line)
+    (λ h7. absurd (none-some line h7))))))))
 
 pub gives_within : (ws : List (List ℕ)) (r : Result Line LineFault) → IsParsed r (line_of_words ws) → IfOk r IsWithin
 gives_within ws (Ok line) h = words_are ws line h

@@ -2,7 +2,7 @@
 use Rattle.std.proofs.Common.{◌≡◌, ℕ, ◌==◌, true, List, [], ◌∷◌, length, Option, Some, None, Bor, refl, arith}
 use Rattle.std.specs.Prelude.{is_some}
 use Rattle.std.proofs.lemmas.List.Splits.{length-slice_split}
-use Rattle.sdb_script.specs.Grammar.{new_line, read_line, root_line}
+use Rattle.sdb_script.specs.Grammar.{new_line, id_and_key, root_line}
 use Rattle.sdb_script.specs.inner.Reading.{words_left}
 
 some_left : (rest : Option (Bor (List ℕ))) → is_some rest ≡ true → length (words_left rest) ≡ 0 → ⊥
@@ -17,13 +17,13 @@ new_two b (w ∷ ws) h = refl
 pub new_longer : (b : List ℕ) (rest : Option (Bor (List ℕ))) (words : List (List ℕ)) → is_some rest ≡ true → words ≡ b ∷ words_left rest → new_line words ≡ None
 new_longer b rest words e is = rw is (new_two b (words_left rest) (some_left rest e))
 
-read_three : (i k : List ℕ) (ws : List (List ℕ)) → (length ws ≡ 0 → ⊥) → read_line (i ∷ (k ∷ ws)) ≡ None
-unfolding read_line
-read_three i k [] h = absurd (h refl)
-read_three i k (w ∷ ws) h = refl
+asked_three : (i k : List ℕ) (ws : List (List ℕ)) → (length ws ≡ 0 → ⊥) → id_and_key (i ∷ (k ∷ ws)) ≡ None
+unfolding id_and_key
+asked_three i k [] h = absurd (h refl)
+asked_three i k (w ∷ ws) h = refl
 
-pub read_longer : (i k : List ℕ) (rest : Option (Bor (List ℕ))) (left words : List (List ℕ)) → is_some rest ≡ true → words ≡ i ∷ left → left ≡ k ∷ words_left rest → read_line words ≡ None
-read_longer i k rest left words e is left_is = rw (is, left_is) (read_three i k (words_left rest) (some_left rest e))
+pub asked_longer : (i k : List ℕ) (rest : Option (Bor (List ℕ))) (left words : List (List ℕ)) → is_some rest ≡ true → words ≡ i ∷ left → left ≡ k ∷ words_left rest → id_and_key words ≡ None
+asked_longer i k rest left words e is left_is = rw (is, left_is) (asked_three i k (words_left rest) (some_left rest e))
 
 root_two : (i : List ℕ) (ws : List (List ℕ)) → (length ws ≡ 0 → ⊥) → root_line (i ∷ ws) ≡ None
 unfolding root_line

@@ -10,10 +10,10 @@ use Rattle.std.proofs.lemmas.List.Splits.{slice_split_at, slice_split_none}
 use Rattle.sdb_base.specs.declared.Block.{Block}
 use Rattle.sdb_base.specs.declared.BlockId.{BlockId}
 use Rattle.sdb_base.specs.declared.Change.{Change}
-use Rattle.sdb_model.specs.declared.Task.TheVariants.{Import, Read, Root}
+use Rattle.sdb_model.specs.declared.Task.TheVariants.{Import, Read, Next, List as Listing, Root}
 use Rattle.sdb_script.specs.declared.line.Line.{Line}
 use Rattle.sdb_script.specs.declared.line.Line.TheVariants.{Blank, New, Genesis, Job}
-use Rattle.sdb_script.specs.Grammar.{most_in_line, words_of, is_blank, each_change, changes_of, block_with, no_parent, new_line, genesis_line, import_line, read_line, root_line, line_of_words, line_of}
+use Rattle.sdb_script.specs.Grammar.{most_in_line, words_of, is_blank, each_change, changes_of, block_with, no_parent, new_line, genesis_line, import_line, id_and_key, read_line, next_line, list_line, root_line, line_of_words, line_of}
 use Rattle.sdb_script.specs.LineTexts.{id_text, change_text, line_text, IsChange, IsBlock, IsId, HasAtMost, IsWithin}
 use Rattle.sdb_script.specs.Texts.{bytes_text}
 use Rattle.sdb_script.specs.Words.{most_in_key}
@@ -68,9 +68,18 @@ unfolding import_line
 import_back block h =
     rw (id_back block.id h.id, id_back block.parent h.parent, changes_back block.changes h.within.few h.changes) (ap (λ (b : Block). Some (Job (Import b))) (block_is block h.version))
 
-read_back : (id : BlockId) (key : List ℕ) → IsId id → HasAtMost most_in_key key → read_line (id_text id ∷ bytes_text key ∷ []) ≡ Some (Job (Read id key))
-unfolding read_line
-read_back id key i k = rw (id_back id i, bytes_back most_in_key key k) refl
+asked_back : (id : BlockId) (key : List ℕ) → IsId id × HasAtMost most_in_key key → id_and_key (id_text id ∷ bytes_text key ∷ []) ≡ Some (id, key)
+unfolding id_and_key
+asked_back id key h = rw (id_back id h.0, bytes_back most_in_key key h.1) refl
+
+read_back : (id : BlockId) (key : List ℕ) → IsId id × HasAtMost most_in_key key → read_line (id_text id ∷ bytes_text key ∷ []) ≡ Some (Job (Read id key))
+read_back id key h = rw (asked_back id key h) refl
+
+next_back : (id : BlockId) (key : List ℕ) → IsId id × HasAtMost most_in_key key → next_line (id_text id ∷ bytes_text key ∷ []) ≡ Some (Job (Next id key))
+next_back id key h = rw (asked_back id key h) refl
+
+listing_back : (id : BlockId) (prefix : List ℕ) → IsId id × HasAtMost most_in_key prefix → list_line (id_text id ∷ bytes_text prefix ∷ []) ≡ Some (Job (Listing id prefix))
+listing_back id prefix h = rw (asked_back id prefix h) refl
 
 root_back : (id : BlockId) → IsId id → root_line (id_text id ∷ []) ≡ Some (Job (Root id))
 unfolding root_line
@@ -86,6 +95,12 @@ list_free [] h = All-nil (λ c. (c == 32) ≡ false)
 list_free (c ∷ cs) h =
     let parts = and_parts (not (c == 32)) (is_free cs) h in
     All-cons (λ b. (b == 32) ≡ false) c cs (not-true (c == 32) parts.0) (list_free cs parts.1)
+
+-- the words of a line that asks for some bytes in a block's state
+asked_words : (word : List ℕ) (id : BlockId) (key : List ℕ) → is_free word ≡ true → IsId id × HasAtMost most_in_key key
+    → words_of (join_with_byte 32 (word ∷ id_text id ∷ bytes_text key ∷ [])) ≡ word ∷ id_text id ∷ bytes_text key ∷ []
+asked_words word id key free h =
+    split_join word (id_text id ∷ bytes_text key ∷ []) (list_free word free) (id_free id h.0, (bytes_free 32 refl refl key h.1.1, tt))
 
 blank_back : line_of [] ≡ Some Blank
 unfolding line_of is_blank
@@ -104,8 +119,11 @@ line_back (Job (Import block)) h le =
     let words = split_join (codes "import") (id_text block.id ∷ id_text block.parent ∷ map change_text block.changes) (list_free (codes "import") refl) (id_free block.id h.id, (id_free block.parent h.parent, changes_free block.changes h.changes)) in
     line_is _ _ (Some (Job (Import block))) le refl words (import_back block h)
 line_back (Job (Read id key)) h le =
-    let words = split_join (codes "read") (id_text id ∷ bytes_text key ∷ []) (list_free (codes "read") refl) (id_free id h.0, (bytes_free 32 refl refl key h.1.1, tt)) in
-    line_is _ _ (Some (Job (Read id key))) le refl words (read_back id key h.0 h.1)
+    line_is _ _ (Some (Job (Read id key))) le refl (asked_words (codes "read") id key refl h) (read_back id key h)
+line_back (Job (Next id key)) h le =
+    line_is _ _ (Some (Job (Next id key))) le refl (asked_words (codes "next") id key refl h) (next_back id key h)
+line_back (Job (Listing id prefix)) h le =
+    line_is _ _ (Some (Job (Listing id prefix))) le refl (asked_words (codes "list") id prefix refl h) (listing_back id prefix h)
 line_back (Job (Root id)) h le =
     let words = split_join (codes "root") (id_text id ∷ []) (list_free (codes "root") refl) (id_free id h, tt) in
     line_is _ _ (Some (Job (Root id))) le refl words (root_back id h)

@@ -8,7 +8,7 @@ use Rattle.sdb_base.specs.declared.Block.{Block}
 use Rattle.sdb_base.specs.declared.BlockId.{BlockId}
 use Rattle.sdb_base.specs.declared.Change.{Change}
 pub use Rattle.sdb_model.specs.Limits.{most_changes}
-use Rattle.sdb_model.specs.declared.Task.TheVariants.{Import, Read, Root}
+use Rattle.sdb_model.specs.declared.Task.TheVariants.{Import, Read, Next, List as Listing, Root}
 use Rattle.sdb_script.specs.declared.line.Line.{Line}
 use Rattle.sdb_script.specs.declared.line.Line.TheVariants.{Blank, New, Genesis, Job}
 use Rattle.sdb_script.specs.Numbers.{number_within}
@@ -62,11 +62,22 @@ import_line (i ∷ (p ∷ cs)) =
     (changes_of cs)) (id_of p)) (id_of i)
 import_line _ = None
 
+-- the words ID KEY, a block and the bytes that are asked for in its state
+unfoldable pub id_and_key : List (List ℕ) → Option (BlockId × List ℕ)
+id_and_key (i ∷ (k ∷ [])) = option_and_then (λ id. option_map (λ key. (id, key)) (bytes_of most_in_key k)) (id_of i)
+id_and_key _ = None
+
 -- the words after `read`: ID KEY
-unfoldable pub read_line : List (List ℕ) → Option Line
-read_line (i ∷ (k ∷ [])) =
-    option_and_then (λ id. option_map (λ key. Job (Read id key)) (bytes_of most_in_key k)) (id_of i)
-read_line _ = None
+abbrev pub read_line : List (List ℕ) → Option Line
+read_line words = option_map (λ asked. Job (Read asked.0 asked.1)) (id_and_key words)
+
+-- the words after `next`: ID KEY
+abbrev pub next_line : List (List ℕ) → Option Line
+next_line words = option_map (λ asked. Job (Next asked.0 asked.1)) (id_and_key words)
+
+-- the words after `list`: ID PREFIX, spelled as a key is
+abbrev pub list_line : List (List ℕ) → Option Line
+list_line words = option_map (λ asked. Job (Listing asked.0 asked.1)) (id_and_key words)
 
 -- the words after `root`: ID
 unfoldable pub root_line : List (List ℕ) → Option Line
@@ -81,6 +92,8 @@ line_of_words (w ∷ ws) =
     else if bytes_eq w (codes "genesis") then genesis_line ws
     else if bytes_eq w (codes "import") then import_line ws
     else if bytes_eq w (codes "read") then read_line ws
+    else if bytes_eq w (codes "next") then next_line ws
+    else if bytes_eq w (codes "list") then list_line ws
     else if bytes_eq w (codes "root") then root_line ws
     else None
 

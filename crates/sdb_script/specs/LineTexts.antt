@@ -7,7 +7,7 @@ use Rattle.sdb_base.specs.declared.Block.{Block}
 use Rattle.sdb_base.specs.declared.BlockId.{BlockId}
 use Rattle.sdb_base.specs.declared.Change.{Change}
 use Rattle.sdb_model.specs.Limits.{BlockIsWithin, ChangeIsWithin, bytes_in_id, most_in_key}
-use Rattle.sdb_model.specs.declared.Task.TheVariants.{Import, Read, Root}
+use Rattle.sdb_model.specs.declared.Task.TheVariants.{Import, Read, Next, List as Listing, Root}
 use Rattle.sdb_script.specs.declared.line.Line.{Line}
 use Rattle.sdb_script.specs.declared.line.Line.TheVariants.{Blank, New, Genesis, Job}
 use Rattle.sdb_script.specs.Grammar.{no_parent}
@@ -31,6 +31,8 @@ line_words (New base) = codes "new" ∷ decimal base ∷ []
 line_words (Genesis window block) = codes "genesis" ∷ id_text block.id ∷ decimal window ∷ map change_text block.changes
 line_words (Job (Import block)) = codes "import" ∷ id_text block.id ∷ id_text block.parent ∷ map change_text block.changes
 line_words (Job (Read id key)) = codes "read" ∷ id_text id ∷ bytes_text key ∷ []
+line_words (Job (Next id key)) = codes "next" ∷ id_text id ∷ bytes_text key ∷ []
+line_words (Job (Listing id prefix)) = codes "list" ∷ id_text id ∷ bytes_text prefix ∷ []
 line_words (Job (Root id)) = codes "root" ∷ id_text id ∷ []
 
 -- the words with one space between them
@@ -65,4 +67,6 @@ IsWithin (New base) = base ≤ 16
 IsWithin (Genesis window block) = (1 ≤ window) × (window ≤ 4096) × IsBlock block × (block.parent ≡ no_parent)
 IsWithin (Job (Import block)) = IsBlock block
 IsWithin (Job (Read id key)) = IsId id × HasAtMost most_in_key key
+IsWithin (Job (Next id key)) = IsId id × HasAtMost most_in_key key
+IsWithin (Job (Listing id prefix)) = IsId id × HasAtMost most_in_key prefix
 IsWithin (Job (Root id)) = IsId id

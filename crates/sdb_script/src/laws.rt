@@ -28,6 +28,14 @@ pub fn known_lines()
     }))) }
     ensures read { line_of (codes "read 01 aA")
         ≡ Some (lines.Job (tasks.Read (record { 0 = replicate 31 0 ++ 1 ∷ [] }) (170 ∷ []))) }
+    ensures next { map line_of (codes "next 01 aA" ∷ codes "next 0a -" ∷ []) ≡
+        Some (lines.Job (tasks.Next (record { 0 = replicate 31 0 ++ 1 ∷ [] }) (170 ∷ [])))
+        ∷ Some (lines.Job (tasks.Next (record { 0 = replicate 31 0 ++ 10 ∷ [] }) []))
+        ∷ [] }
+    ensures list { map line_of (codes "list 01 00fF" ∷ codes "list 0a -" ∷ []) ≡
+        Some (lines.Job (tasks.List (record { 0 = replicate 31 0 ++ 1 ∷ [] }) (0 ∷ 255 ∷ [])))
+        ∷ Some (lines.Job (tasks.List (record { 0 = replicate 31 0 ++ 10 ∷ [] }) []))
+        ∷ [] }
     ensures root { line_of (codes "root 0a")
         ≡ Some (lines.Job (tasks.Root (record { 0 = replicate 31 0 ++ 10 ∷ [] }))) }
     ensures none { map line_of (
@@ -36,9 +44,12 @@ pub fn known_lines()
         ∷ codes "import 02 01 aa=" ∷ codes "import 02 01 !" ∷ codes "import 02 01 =01" ∷ codes "import 02 01 aa!!"
         ∷ codes "genesis 01 0" ∷ codes "genesis 01 4097" ∷ codes "canon 01"
         ∷ codes "read 000000000000000000000000000000000000000000000000000000000000000001 aa"
+        ∷ codes "next 01 a" ∷ codes "next 01 aaa" ∷ codes "next 01 aa bb" ∷ codes "next 01" ∷ codes "next - aa"
+        ∷ codes "list 01 a" ∷ codes "list 01 aaa" ∷ codes "list 01 aa bb" ∷ codes "list 01" ∷ codes "list 01 "
+        ∷ codes "lists 01 aa"
         ∷ codes "root" ∷ codes "root 01 aa" ∷ codes "root 1"
         ∷ []
-        ) ≡ replicate 21 None }
+        ) ≡ replicate 32 None }
 {}
 
 /// A number is spelled by its decimal digits and by no other word.

@@ -2,7 +2,7 @@ ghost use Rattle.std.specs.Prelude.{◌≡◌};
 ghost use Rattle.sdb_script.specs.declared.line.LineFault.TheVariants.{OutOfMemory};
 
 use sdb_base::Block;
-use sdb_model::{Reply, Task};
+use sdb_model::{Refusal, Reply, Task};
 use std::alloc::{AllocError, AllocFailed};
 use thiserror::Error;
 
@@ -23,7 +23,8 @@ pub enum Line {
         /// The block; its parent is 32 zero bytes.
         block: Block,
     },
-    /// A line that is one job: `import ID PARENT CHANGE ..`, `read ID KEY` or `root ID`.
+    /// A line that is one job: `import ID PARENT CHANGE ..`, `read ID KEY`, `next ID KEY`, `list ID PREFIX` or
+    /// `root ID`.
     Job {
         /// The job's task.
         task: Task,
@@ -39,6 +40,8 @@ pub enum LineReply {
     Genesis,
     /// To a job.
     Job(Reply),
+    /// To a line that is no job, and was refused: a second `genesis`.
+    Refused(Refusal),
 }
 
 /// Why a text gave no line.

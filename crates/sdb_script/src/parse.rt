@@ -1,5 +1,5 @@
 ghost use Rattle.std.specs.Prelude.{◌≡◌, Some, None, IfOk, IsErrOf};
-ghost use Rattle.sdb_script.specs.Grammar.{line_of, is_blank, new_line, genesis_line, import_line, read_line, root_line, line_of_words, words_of};
+ghost use Rattle.sdb_script.specs.Grammar.{line_of, is_blank, new_line, genesis_line, import_line, id_and_key, read_line, next_line, list_line, root_line, line_of_words, words_of};
 ghost use Rattle.sdb_script.specs.LineTexts.{IsWithin};
 ghost use Rattle.sdb_script.specs.inner.Reading.{IsParsed, words_left};
 
@@ -8,7 +8,7 @@ use crate::cursor::{first_word, next_word};
 use crate::line::{Line, LineFault};
 use crate::number::parse_number;
 use crate::word::{parse_id, parse_key};
-use sdb_base::{Block, BlockId};
+use sdb_base::{Block, BlockId, Bytes};
 use sdb_model::Task;
 use std::alloc::Global;
 
@@ -77,10 +77,10 @@ fn parse_import(alloc: Global, words: Option<&[u8]>) -> Result<Line, LineFault>
     })
 }
 
-// The line of the words after `read`.
-#[tactic(auto, unfolding(crate::specs::Grammar::read_line))]
-fn parse_read(alloc: Global, words: Option<&[u8]>) -> Result<Line, LineFault>
-    ensures { IsParsed result (read_line (words_left words.entry)) }
+// The block and the key that the words spell, `ID KEY`.
+#[tactic(auto, unfolding(crate::specs::Grammar::id_and_key))]
+fn parse_id_and_key(alloc: Global, words: Option<&[u8]>) -> Result<(BlockId, Bytes), LineFault>
+    ensures { IsParsed result (id_and_key (words_left words.entry)) }
 {
     let (id, words) = next_word(words).ok_or(LineFault::NotInGrammar)?;
     let (key, rest) = next_word(words).ok_or(LineFault::NotInGrammar)?;
@@ -89,8 +89,36 @@ fn parse_read(alloc: Global, words: Option<&[u8]>) -> Result<Line, LineFault>
     }
     let id = parse_id(id).ok_or(LineFault::NotInGrammar)?;
     let key = parse_key(alloc, key)?;
+    Ok((id, key))
+}
+
+// The line of the words after `read`.
+fn parse_read(alloc: Global, words: Option<&[u8]>) -> Result<Line, LineFault>
+    ensures { IsParsed result (read_line (words_left words.entry)) }
+{
+    let (id, key) = parse_id_and_key(alloc, words)?;
     Ok(Line::Job {
         task: Task::Read { id, key },
+    })
+}
+
+// The line of the words after `next`.
+fn parse_next(alloc: Global, words: Option<&[u8]>) -> Result<Line, LineFault>
+    ensures { IsParsed result (next_line (words_left words.entry)) }
+{
+    let (id, key) = parse_id_and_key(alloc, words)?;
+    Ok(Line::Job {
+        task: Task::Next { id, key },
+    })
+}
+
+// The line of the words after `list`.
+fn parse_list(alloc: Global, words: Option<&[u8]>) -> Result<Line, LineFault>
+    ensures { IsParsed result (list_line (words_left words.entry)) }
+{
+    let (id, prefix) = parse_id_and_key(alloc, words)?;
+    Ok(Line::Job {
+        task: Task::List { id, prefix },
     })
 }
 
@@ -123,6 +151,10 @@ fn parse_words(alloc: Global, line: &[u8]) -> Result<Line, LineFault>
         parse_import(alloc, words)
     } else if word == b"read".as_slice() {
         parse_read(alloc, words)
+    } else if word == b"next".as_slice() {
+        parse_next(alloc, words)
+    } else if word == b"list".as_slice() {
+        parse_list(alloc, words)
     } else if word == b"root".as_slice() {
         parse_root(words).ok_or(LineFault::NotInGrammar)
     } else {

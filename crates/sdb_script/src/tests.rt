@@ -1,5 +1,5 @@
 use super::*;
-use sdb_base::{BlockId, Bytes, Change, NodeHash};
+use sdb_base::{BlockId, Bytes, Change, Keys, NodeHash};
 use sdb_model::{Refusal, Reply, Task};
 use std::alloc::{AllocError, Global};
 use std::test::*;
@@ -101,6 +101,46 @@ fn read_lines(rt: HostRuntime) -> Result<(), Fail> {
     Ok(())
 }
 
+// The first word of a line that asks for a block's key after a key, or for its keys with a prefix, the block,
+// and these bytes.
+fn asked(line: Line) -> Option<(&'static str, BlockId, Bytes)> {
+    match line {
+        Line::Job {
+            task: Task::Next { id, key },
+        } => Some(("next", id, key)),
+        Line::Job {
+            task: Task::List { id, prefix },
+        } => Some(("list", id, prefix)),
+        _ => None,
+    }
+}
+
+#[test]
+fn next_and_list_lines(rt: HostRuntime) -> Result<(), Fail> {
+    for (text, want_word, want_id, want_bytes) in [
+        ("next 01 aA", "next", id([0, 1]), b"\xaa".as_slice()),
+        ("next 0000 -", "next", id([0, 0]), b"".as_slice()),
+        ("next aBCd 00", "next", id([0xab, 0xcd]), b"\x00".as_slice()),
+        ("list 01 aA", "list", id([0, 1]), b"\xaa".as_slice()),
+        ("list 0000 -", "list", id([0, 0]), b"".as_slice()),
+        (
+            "list aBCd 00fF10",
+            "list",
+            id([0xab, 0xcd]),
+            b"\x00\xff\x10".as_slice(),
+        ),
+    ] {
+        let line = parse_line(rt.alloc(), text.as_bytes())?;
+        let Some((word, id, bytes)) = asked(line) else {
+            return Err(Fail::new(text));
+        };
+        assert_eq!(rt; word, want_word, "{text}");
+        assert_eq!(rt; id, want_id, "{text}");
+        assert_eq!(rt; bytes.as_slice(), want_bytes, "{text}");
+    }
+    Ok(())
+}
+
 #[test]
 fn root_lines(rt: HostRuntime) -> Result<(), Fail> {
     for (text, want) in [("root 01", [0, 1]), ("root aBCd", [0xab, 0xcd])] {
@@ -144,6 +184,24 @@ fn texts_that_are_no_lines(rt: HostRuntime) {
         "read 1 aa",
         "read 0g aa",
         "read 01 aa\n",
+        "next",
+        "next 01",
+        "next 01 ",
+        "next 01 a",
+        "next 01 aab",
+        "next 01 aa bb",
+        "next - aa",
+        "next 1 aa",
+        "Next 01 aa",
+        "list",
+        "list 01",
+        "list 01 ",
+        "list 01 a",
+        "list 01 aab",
+        "list 01 aa bb",
+        "list 01 0g",
+        "list - aa",
+        "lists 01 aa",
         "root",
         "root 1",
         "root 01 ",
@@ -172,6 +230,8 @@ fn limits(rt: HostRuntime) -> Result<(), Fail> {
         ("", "#", 16777216),
         ("import 01 02", " aa!", 65536),
         ("read 01 ", "ab", 1024),
+        ("next 01 ", "ab", 1024),
+        ("list 01 ", "ab", 1024),
         ("import 01 02 aa=", "00", 4194304),
     ] {
         let within = repeated(rt.alloc(), front, unit, most)?;
@@ -196,6 +256,7 @@ fn text_of(alloc: Global, reply: LineReply) -> Result<Vec<u8>, AllocError> {
 fn replies(rt: HostRuntime) -> Result<(), Fail> {
     let alloc = rt.alloc();
     let bytes = Bytes::from_slice(alloc, b"\x00\x1f\xab")?;
+    let key = Bytes::from_slice(alloc, b"\x0a\xf0")?;
     for (reply, want) in [
         (LineReply::New, "> new"),
         (LineReply::Genesis, "> genesis"),
@@ -206,26 +267,58 @@ fn replies(rt: HostRuntime) -> Result<(), Fail> {
         ),
         (LineReply::Job(Reply::Value(bytes)), "> value 001fab"),
         (LineReply::Job(Reply::Value(Bytes::new(alloc))), "> value -"),
+        (LineReply::Job(Reply::Key(key)), "> next 0af0"),
+        (LineReply::Job(Reply::Key(Bytes::new(alloc))), "> next -"),
         (LineReply::Job(Reply::Nothing), "> none"),
         (
             LineReply::Job(Reply::Root(NodeHash([0xa0; 32]))),
             "> root a0a0a0a0a0a0a0a0a0a0a0a0a0a0a0a0a0a0a0a0a0a0a0a0a0a0a0a0a0a0a0a0",
         ),
-        (
-            LineReply::Job(Reply::Refused(Refusal::UnknownBlock)),
-            "> refused 1 UnknownBlock",
-        ),
-        (
-            LineReply::Job(Reply::Refused(Refusal::AlreadyExists)),
-            "> refused 3 AlreadyExists",
-        ),
-        (
-            LineReply::Job(Reply::Refused(Refusal::UnknownParent)),
-            "> refused 4 UnknownParent",
-        ),
     ] {
         let text = text_of(alloc, reply)?;
         assert_eq!(rt; text.as_slice(), want.as_bytes(), "{want}");
     }
+    Ok(())
+}
+
+#[test]
+fn refusals(rt: HostRuntime) -> Result<(), Fail> {
+    let alloc = rt.alloc();
+    for (refusal, want) in [
+        (Refusal::UnknownBlock, "> refused 1 UnknownBlock"),
+        (Refusal::AlreadyExists, "> refused 3 AlreadyExists"),
+        (Refusal::UnknownParent, "> refused 4 UnknownParent"),
+        (
+            Refusal::TooManySiblings { number: 40 },
+            "> refused 6 TooManySiblings 40",
+        ),
+        (Refusal::HasGenesis, "> refused 9 HasGenesis"),
+        (Refusal::NoGenesis, "> refused 10 NoGenesis"),
+    ] {
+        let of_a_job = text_of(alloc, LineReply::Job(Reply::Refused(refusal)))?;
+        assert_eq!(rt; of_a_job.as_slice(), want.as_bytes(), "{want}");
+        let of_a_line = text_of(alloc, LineReply::Refused(refusal))?;
+        assert_eq!(rt; of_a_line.as_slice(), want.as_bytes(), "{want}");
+    }
+    Ok(())
+}
+
+// Whether the reply to a list of these keys has this text.
+fn is_listed(alloc: Global, keys: &[&[u8]], want: &[u8]) -> Result<bool, AllocError> {
+    let mut listed = Keys::new(alloc);
+    for key in keys {
+        listed.push(Bytes::from_slice(alloc, *key)?)?;
+    }
+    let text = text_of(alloc, LineReply::Job(Reply::Listed(listed)))?;
+    Ok(text.as_slice() == want)
+}
+
+#[test]
+fn lists_of_keys(rt: HostRuntime) -> Result<(), Fail> {
+    let alloc = rt.alloc();
+    assert!(rt; is_listed(alloc, &[], b"> list")?);
+    assert!(rt; is_listed(alloc, &[b"\xab\x00"], b"> list ab00")?);
+    assert!(rt; is_listed(alloc, &[b""], b"> list -")?);
+    assert!(rt; is_listed(alloc, &[b"", b"\x00", b"\x00\xff"], b"> list - 00 00ff")?);
     Ok(())
 }

@@ -1,9 +1,10 @@
 ghost use Rattle.std.specs.Prelude.{◌≡◌, ◌++◌, codes, length, take, OnOk, OnErr};
+ghost use Rattle.std.specs.Fmt.{decimal};
 ghost use Rattle.sdb_script.specs.Texts as texts;
-ghost use Rattle.sdb_script.specs.Texts.{bytes_text, job_text, refusal_text};
+ghost use Rattle.sdb_script.specs.Texts.{bytes_text, job_text, keys_text, refusal_text, refused_text};
 
 use crate::line::LineReply;
-use sdb_base::OutOfMemory;
+use sdb_base::{Keys, OutOfMemory};
 use sdb_model::{Refusal, Reply};
 use std::alloc::{AllocError, Global};
 
@@ -30,6 +31,7 @@ fn append_reply(alloc: Global, reply: &LineReply, out: &mut Vec<u8>) -> Result<(
         LineReply::New => out.extend_from_slice(b"new"),
         LineReply::Genesis => out.extend_from_slice(b"genesis"),
         LineReply::Job(reply) => append_job(alloc, reply, out),
+        LineReply::Refused(refusal) => append_refused(alloc, *refusal, out),
     }
 }
 
@@ -38,22 +40,84 @@ fn append_job(alloc: Global, reply: &Reply, out: &mut Vec<u8>) -> Result<(), All
     ensures err { OnErr result (take (length out.old.items) out.new.items ≡ out.old.items) }
 {
     match reply {
-        Reply::Imported(number) => {
-            let digits = number.to_string(alloc)?;
-            append_both(b"import ", digits.as_bytes(), out)
-        }
-        Reply::Value(value) if value.is_empty() => out.extend_from_slice(b"value -"),
-        Reply::Value(value) => {
-            let digits = hex::encode(alloc, value.as_slice())?;
-            append_both(b"value ", digits.as_bytes(), out)
-        }
+        Reply::Imported(number) => append_number(alloc, b"import ", *number, out),
+        Reply::Value(value) => append_bytes(alloc, b"value ", value.as_slice(), out),
+        Reply::Key(key) => append_bytes(alloc, b"next ", key.as_slice(), out),
         Reply::Nothing => out.extend_from_slice(b"none"),
+        Reply::Listed(keys) => append_listed(alloc, keys, out),
         Reply::Root(root) => {
             let digits = hex::encode(alloc, root.0.as_slice())?;
             append_both(b"root ", digits.as_bytes(), out)
         }
-        Reply::Refused(refusal) => append_both(b"refused ", refusal_text(*refusal), out),
+        Reply::Refused(refusal) => append_refused(alloc, *refusal, out),
     }
+}
+
+// `list` and the keys.
+fn append_listed(alloc: Global, keys: &Keys, out: &mut Vec<u8>) -> Result<(), AllocError>
+    ensures ok { OnOk result (out.new.items ≡ out.old.items ++ (codes "list" ++ keys_text keys.now)) }
+    ensures err { OnErr result (take (length out.old.items) out.new.items ≡ out.old.items) }
+{
+    out.extend_from_slice(b"list")?;
+    for key in keys.as_slice() {
+        append_bytes(alloc, b" ", key.as_slice(), out)?;
+    }
+    Ok(())
+}
+
+fn append_refused(alloc: Global, refusal: Refusal, out: &mut Vec<u8>) -> Result<(), AllocError>
+    ensures ok { OnOk result (out.new.items ≡ out.old.items ++ refused_text refusal) }
+    ensures err { OnErr result (take (length out.old.items) out.new.items ≡ out.old.items) }
+{
+    out.extend_from_slice(b"refused ")?;
+    append_refusal(alloc, refusal, out)
+}
+
+fn append_refusal(alloc: Global, refusal: Refusal, out: &mut Vec<u8>) -> Result<(), AllocError>
+    ensures ok { OnOk result (out.new.items ≡ out.old.items ++ refusal_text refusal) }
+    ensures err { OnErr result (take (length out.old.items) out.new.items ≡ out.old.items) }
+{
+    match refusal {
+        Refusal::UnknownBlock => out.extend_from_slice(b"1 UnknownBlock"),
+        Refusal::AlreadyExists => out.extend_from_slice(b"3 AlreadyExists"),
+        Refusal::UnknownParent => out.extend_from_slice(b"4 UnknownParent"),
+        Refusal::TooManySiblings { number } => {
+            append_number(alloc, b"6 TooManySiblings ", number, out)
+        }
+        Refusal::HasGenesis => out.extend_from_slice(b"9 HasGenesis"),
+        Refusal::NoGenesis => out.extend_from_slice(b"10 NoGenesis"),
+    }
+}
+
+// The front, and the number's decimal digits.
+fn append_number(
+    alloc: Global,
+    front: &[u8],
+    number: u64,
+    out: &mut Vec<u8>,
+) -> Result<(), AllocError>
+    ensures ok { OnOk result (out.new.items ≡ out.old.items ++ (front.now ++ decimal number)) }
+    ensures err { OnErr result (take (length out.old.items) out.new.items ≡ out.old.items) }
+{
+    let digits = number.to_string(alloc)?;
+    append_both(front, digits.as_bytes(), out)
+}
+
+// The front, and two digits for each byte or `-` for no bytes.
+fn append_bytes(
+    alloc: Global,
+    front: &[u8],
+    bytes: &[u8],
+    out: &mut Vec<u8>,
+) -> Result<(), AllocError>
+    ensures ok { OnOk result (out.new.items ≡ out.old.items ++ (front.now ++ bytes_text bytes.now)) }
+    ensures err { OnErr result (take (length out.old.items) out.new.items ≡ out.old.items) }
+{
+    if bytes.is_empty() {
+        return append_both(front, b"-", out);
+    }
+    let digits = hex::encode(alloc, bytes)?;
+    append_both(front, digits.as_bytes(), out)
 }
 
 // Both parts, one after the other.
@@ -63,14 +127,4 @@ fn append_both(front: &[u8], back: &[u8], out: &mut Vec<u8>) -> Result<(), Alloc
 {
     out.extend_from_slice(front)?;
     out.extend_from_slice(back)
-}
-
-fn refusal_text(refusal: Refusal) -> &'static [u8]
-    ensures { result.now ≡ refusal_text refusal }
-{
-    match refusal {
-        Refusal::UnknownBlock => b"1 UnknownBlock",
-        Refusal::AlreadyExists => b"3 AlreadyExists",
-        Refusal::UnknownParent => b"4 UnknownParent",
-    }
 }

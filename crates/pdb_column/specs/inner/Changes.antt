@@ -1,11 +1,13 @@
 -- What a step does with a column's cells, and where it finds a key's value.
-use Rattle.std.specs.Prelude.{◌≡◌, ◌≢◌, ◌⊎◌, ◌<◌, ◌+◌, ◌*◌, ℕ, Bool, true, false, List, Option, Some, slice_get}
+use Rattle.std.specs.Prelude.{◌≡◌, ◌≢◌, ◌⊎◌, ◌<◌, ◌≤◌, ◌+◌, ◌*◌, ℕ, Bool, true, false, List, length, Option, Some, slice_get}
 use Rattle.sdb_base.specs.Content.{Counted, without_reference}
 use Rattle.pdb_cells.specs.Content.{Content}
 use Rattle.pdb_cells.specs.Sizes.{head_file}
 use Rattle.pdb_model.specs.Chunks.{CarriesKey, entry_slot, entry_tier}
 use Rattle.pdb_model.specs.Columns.{Column}
-use Rattle.pdb_model.specs.Tables.{Held, held}
+use Rattle.pdb_model.specs.Tables.{Held, Table, held, placed, room_of, slots_of}
+use Rattle.pdb_model.specs.Tiers.{tier_of}
+use Rattle.pdb_value.specs.Faults.{HasTable}
 use Rattle.pdb_column.specs.Holding.{HoldsColumn}
 use Rattle.pdb_column.specs.Maps.{ColumnMap}
 use Rattle.pdb_column.specs.inner.KeyChunks.{HasKeyChunk}
@@ -50,3 +52,9 @@ pub record IsDropped (column base : ℕ) (content : ColumnMap) (key entries : Li
 pub record IsChanged (column base : ℕ) (content : ColumnMap) (key : List ℕ) (now : Option Counted) (before after : Content) : Type 0 where
   pub only : OnlyColumn column before after
   pub holds : HoldsColumn after column base (with_under content key now)
+
+-- A column's tier had slots for these bytes, and these have them now, under this key and with a count of 1.
+pub record IsPlaced (cells : Content) (column : ℕ) (key bytes : List ℕ) : Type 0 where
+  pub table : Table
+  pub room : slots_of (length bytes) ≤ room_of table
+  pub there : HasTable cells column (tier_of (length bytes)) (placed table key 1 bytes)

@@ -42,3 +42,7 @@ StepSays IsDamaged IsFullOf IsFull (step.ChunkFull bits chunk) = IsFull bits chu
 -- any tier
 abbrev pub AnyTier : ℕ → Type 0
 AnyTier tier = Unit {0}
+
+-- any cell
+abbrev pub AnyCell : ℕ → ℕ → Type 0
+AnyCell file cell = Unit {0}

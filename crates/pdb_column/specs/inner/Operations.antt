@@ -1,9 +1,12 @@
--- What an operation needs.
+-- What an operation needs, and what it has placed.
 use Rattle.std.specs.Prelude.{◌≡◌, ℕ, List}
 use Rattle.sdb_base.specs.declared.op.Op.{Op}
 use Rattle.sdb_base.specs.declared.op.Op.TheVariants.{AddRef, DropRef, Erase, Put}
+use Rattle.pdb_cells.specs.Content.{Content}
 use Rattle.pdb_model.specs.Chunks.{chunk_number}
 use Rattle.pdb_column.specs.Maps.{ColumnMap, Inserts, IsCrowded}
+use Rattle.pdb_column.specs.Storing.{Stores}
+use Rattle.pdb_column.specs.inner.Changes.{IsPlaced}
 
 -- the column of an operation's key
 abbrev pub column_of : Op → ℕ
@@ -19,3 +22,7 @@ pub record Crowds (bases : ℕ → ℕ) (contents : ℕ → ColumnMap) (op : Op)
   pub bits_are : bits ≡ bases column
   pub chunk_is : chunk ≡ chunk_number bits key
   pub crowded : IsCrowded (contents column) bits key
+
+-- the operation's bytes are in the slots of their tier
+abbrev pub HasItsSlots : Content → ℕ → Op → Type 0
+HasItsSlots cells column op = (key bytes : List ℕ) × Stores column op key bytes × IsPlaced cells column key bytes

@@ -3,13 +3,15 @@ use Rattle.std.proofs.lemmas.Result.{err_from_is_err_and}
 use Rattle.pdb_cells.specs.Content.{Content}
 use Rattle.pdb_model.specs.Files.{OnlyTable, head_cell}
 use Rattle.pdb_model.specs.Heads.{IsHeadCell}
+use Rattle.pdb_model.specs.Tables.{placed}
 use Rattle.pdb_model.specs.Tiers.{tier_of}
-use Rattle.pdb_value.specs.Faults.{Drafts}
+use Rattle.pdb_value.specs.Faults.{Drafts, HasTable}
 use Rattle.pdb_column.proofs.Cells.{chunk_kept}
 use Rattle.pdb_column.proofs.Entered.{at_ok, crowded_in, full_chunk, inserted_held, not_crowded_in, place_breaks, place_sound, put_at}
 use Rattle.pdb_column.proofs.Hits.{one_draft}
 use Rattle.pdb_column.proofs.Inserting.{tier_low}
 use Rattle.pdb_column.proofs.KeyChunks.{keeps_head}
+use Rattle.pdb_column.proofs.SlotsFirst.{any_says}
 use Rattle.pdb_column.proofs.insert.insert.Goals as goal
 
 pub returns-in_err-at-clause-sound : goal.returns-in_err-at-clause-sound
@@ -57,3 +59,21 @@ pub returns-in-Ok-clause-uncrowded : goal.returns-in-Ok-clause-uncrowded
 returns-in-Ok-clause-uncrowded g c cells content drafts holds chunk =
     let at = put_at c.args.chunk.now.entries.items c.entry_at-new.result c.put.new.c.items (at_ok c.put.result (sym c.is_err.ensures.value ∙ c.if-is_err.false) c.put.ensures.ok) in
     not_crowded_in cells c.args.column c.args.chunk.now.base c.args.chunk.now.base content c.args.key.now c.args.chunk.now.entries.items at.place holds chunk at.empty
+
+pub returns-in_err-at-clause-slots_first : goal.returns-in_err-at-clause-slots_first
+returns-in_err-at-clause-slots_first g c cells content drafts holds =
+    let p = err_from_is_err_and c.from_residual.result c.from_residual.ensures.1 in
+    rw (p.1, p.2) (any_says _)
+
+pub returns-then-is_err-clause-slots_first : goal.returns-then-is_err-clause-slots_first
+returns-then-is_err-clause-slots_first g c cells content drafts holds =
+    let to : ℕ = tier_of (length c.args.bytes.now) in
+    let d = c.in_ok-at.ensures.placed cells (holds.picture.tables to) drafts (holds.spelled.tables to (tier_low (length c.args.bytes.now))) in (
+      d.2.0,
+      d.2.1,
+      record {
+        table = holds.picture.tables to;
+        room = d.1;
+        there = subst (λ t. HasTable d.2.0 c.args.column t (placed (holds.picture.tables to) c.args.key.now 1 c.args.bytes.now)) c.in_ok-at.ensures.tier d.2.2;
+      },
+    )

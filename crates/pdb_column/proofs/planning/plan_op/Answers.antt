@@ -7,10 +7,12 @@ use Rattle.pdb_value.specs.Faults.{Drafts, IsFullTier, NoCell}
 use Rattle.pdb_column.specs.Damages.{BreaksColumn, IsFullChunk}
 use Rattle.pdb_column.specs.Holding.{HoldsColumns}
 use Rattle.pdb_column.specs.Maps.{column_after}
-use Rattle.pdb_column.specs.inner.Faults.{AnyTier, StepSays}
-use Rattle.pdb_column.specs.inner.Operations.{Crowds, column_of}
+use Rattle.pdb_column.specs.inner.Changes.{IsPlaced}
+use Rattle.pdb_column.specs.inner.Faults.{AnyCell, AnyTier, StepSays}
+use Rattle.pdb_column.specs.inner.Operations.{Crowds, HasItsSlots, column_of}
 use Rattle.pdb_column.proofs.Located.{step_more}
 use Rattle.pdb_column.proofs.Planned.{added, dropped_node, erased_under, put_under, says_in}
+use Rattle.pdb_column.proofs.SlotsFirst.{any_says}
 use Rattle.pdb_column.proofs.planning.plan_op.Goals as goal
 
 pub returns-in-AddRef-clause-planned : goal.returns-in-AddRef-clause-planned
@@ -77,3 +79,32 @@ pub returns-in_err-drop_key-in-Erase-clause-faults : goal.returns-in_err-drop_ke
 returns-in_err-drop_key-in-Erase-clause-faults g c cells drafts =
     let p = err_from_is_err_and c.from_residual-in_err-drop_key-in-Erase.result c.from_residual-in_err-drop_key-in-Erase.ensures.1 in
     rw (p.1, p.2) (says_in (λ (x : Content). Drafts c.drop_key-in-Erase.new.d.puts (g.C.Cells.seen c.drop_key-in-Erase.new.d.under.now) x) c.args.op.now 1 _ (ap column_of (sym c.in-Erase.is)) (c.in_err-drop_key-in-Erase.ensures.faults cells drafts))
+
+-- ---- the slots come first
+
+pub returns-in-AddRef-clause-slots_first : goal.returns-in-AddRef-clause-slots_first
+returns-in-AddRef-clause-slots_first g c cells bases contents drafts holds =
+    subst (λ op. IfErr c.add_node.result (StepSays AnyCell AnyTier (λ bits n. (x : Content) × Drafts c.add_node.new.d.puts (g.C.Cells.seen c.add_node.new.d.under.now) x × HasItsSlots x (column_of op) op))) (sym c.in-AddRef.is)
+    (IfErr-weaker c.add_node.result _ _
+    (λ e h. step_more AnyCell AnyTier _ (λ bits n. (x : Content) × Drafts c.add_node.new.d.puts (g.C.Cells.seen c.add_node.new.d.under.now) x × HasItsSlots x 0 (AddRef c.in-AddRef.key c.in-AddRef.bytes)) e
+    (λ bits n w. (w.0, w.1, (c.in-AddRef.key.0, c.in-AddRef.bytes, (refl, refl, refl), subst (IsPlaced w.0 0 c.in-AddRef.key.0) c.as_slice.ensures w.2))) h)
+    (c.add_node.ensures.slots_first cells (bases 0) (contents 0) drafts (holds.each 0 (omega arith))))
+
+pub returns-in_err-drop_key-in-DropRef-clause-slots_first : goal.returns-in_err-drop_key-in-DropRef-clause-slots_first
+returns-in_err-drop_key-in-DropRef-clause-slots_first g c cells bases contents drafts holds =
+    let p = err_from_is_err_and c.from_residual.result c.from_residual.ensures.1 in
+    rw (p.1, p.2) (any_says _)
+
+pub returns-in-Put-clause-slots_first : goal.returns-in-Put-clause-slots_first
+returns-in-Put-clause-slots_first g c cells bases contents drafts holds =
+    let hashed : c.hash256-hash.result ≡ H c.in-Put.key = c.hash256-hash.ensures ∙ ap H c.as_slice-in-Put.ensures in
+    subst (λ op. IfErr c.put_plain.result (StepSays AnyCell AnyTier (λ bits n. (x : Content) × Drafts c.put_plain.new.d.puts (g.C.Cells.seen c.put_plain.new.d.under.now) x × HasItsSlots x (column_of op) op))) (sym c.in-Put.is)
+    (IfErr-weaker c.put_plain.result _ _
+    (λ e h. step_more AnyCell AnyTier _ (λ bits n. (x : Content) × Drafts c.put_plain.new.d.puts (g.C.Cells.seen c.put_plain.new.d.under.now) x × HasItsSlots x 1 (Put c.in-Put.key c.in-Put.bytes)) e
+    (λ bits n w. (w.0, w.1, (c.hash256-hash.result, c.in-Put.bytes, (refl, sym hashed, refl), subst (IsPlaced w.0 1 c.hash256-hash.result) c.as_slice-in-Put-2.ensures w.2))) h)
+    (c.put_plain.ensures.slots_first cells (bases 1) (contents 1) drafts (holds.each 1 (omega arith))))
+
+pub returns-in_err-drop_key-in-Erase-clause-slots_first : goal.returns-in_err-drop_key-in-Erase-clause-slots_first
+returns-in_err-drop_key-in-Erase-clause-slots_first g c cells bases contents drafts holds =
+    let p = err_from_is_err_and c.from_residual-in_err-drop_key-in-Erase.result c.from_residual-in_err-drop_key-in-Erase.ensures.1 in
+    rw (p.1, p.2) (any_says _)

@@ -11,6 +11,7 @@ use Rattle.pdb_column.proofs.Entered.{place_sound}
 use Rattle.pdb_column.proofs.Hits.{one_draft}
 use Rattle.pdb_column.proofs.KeyChunks.{keeps_head}
 use Rattle.pdb_column.proofs.Located.{breaks_now, changed_as, drafts_stay, if_some_at, none_at, none_some, referenced, some_at, step_more}
+use Rattle.pdb_column.proofs.SlotsFirst.{any_says}
 use Rattle.pdb_column.proofs.steps.add_node.Goals as goal
 
 pub returns-in_err-found-clause-sound : goal.returns-in_err-found-clause-sound
@@ -89,3 +90,18 @@ returns-in-None-clause-sound g c cells base content drafts holds =
 
 pub returns-in-None-clause-faults : goal.returns-in-None-clause-faults
 returns-in-None-clause-faults g c cells drafts = c.insert.ensures.faults cells (c.locate.ensures.stays cells drafts) (c.in_ok-found.ensures.spelled cells drafts)
+
+pub returns-in_err-found-clause-slots_first : goal.returns-in_err-found-clause-slots_first
+returns-in_err-found-clause-slots_first g c cells base content drafts holds =
+    let p = err_from_is_err_and c.from_residual.result c.from_residual.ensures.1 in
+    rw (p.1, p.2) (any_says _)
+
+pub returns-in_err-add_ref-in-Some-clause-slots_first : goal.returns-in_err-add_ref-in-Some-clause-slots_first
+returns-in_err-add_ref-in-Some-clause-slots_first g c cells base content drafts holds =
+    let p = err_from_is_err_and c.from_residual-in_err-add_ref-in-Some.result c.from_residual-in_err-add_ref-in-Some.ensures.1 in
+    rw (p.1, p.2) (any_says _)
+
+pub returns-in-None-clause-slots_first : goal.returns-in-None-clause-slots_first
+returns-in-None-clause-slots_first g c cells base content drafts holds =
+    let same = c.in_ok-found.ensures.same_base cells base content drafts holds in
+    c.insert.ensures.slots_first cells content (c.locate.ensures.stays cells drafts) (subst (λ n. HoldsColumn cells 0 n content) (sym same) holds)

@@ -13,6 +13,7 @@ use Rattle.pdb_column.proofs.Entered.{place_sound}
 use Rattle.pdb_column.proofs.Hits.{one_draft}
 use Rattle.pdb_column.proofs.KeyChunks.{keeps_head}
 use Rattle.pdb_column.proofs.Located.{any_tier, breaks_now, changed_as, drafts_stay, dropped_none, has_room, if_some_at, none_at, none_some, ok_any, over_dropped, some_at, step_more, written_over}
+use Rattle.pdb_column.proofs.SlotsFirst.{any_says}
 use Rattle.pdb_column.proofs.steps.put_plain.Goals as goal
 
 pub returns-in_err-found-clause-sound : goal.returns-in_err-found-clause-sound
@@ -171,3 +172,35 @@ returns-clause-faults g c cells drafts =
     let still = drafts_stay _ _ _ _ cells (c.in_ok-done.ensures.nothing c.if-done.false) (λ below. g.met.C.Cells.stays _ _ below c.replace.ensures.keeps) (c.locate.ensures.stays cells drafts) in
     let d = c.in_ok-remove.ensures.chunk cells c.args.key.now still (c.in_ok-found.ensures.spelled cells drafts) (c.in_ok-found.ensures.entries cells drafts) c.in_ok-found.ensures.number.0 hit in
     c.insert-2.ensures.faults d.0 d.1 d.2
+
+-- ---- the slots come first
+
+pub returns-in_err-found-clause-slots_first : goal.returns-in_err-found-clause-slots_first
+returns-in_err-found-clause-slots_first g c cells base content drafts holds =
+    let p = err_from_is_err_and c.from_residual.result c.from_residual.ensures.1 in
+    rw (p.1, p.2) (any_says _)
+
+pub returns-in_default-clause-slots_first : goal.returns-in_default-clause-slots_first
+returns-in_default-clause-slots_first g c cells base content drafts holds =
+    let same = c.in_ok-found.ensures.same_base cells base content drafts holds in
+    c.insert.ensures.slots_first cells content (c.locate.ensures.stays cells drafts) (subst (λ n. HoldsColumn cells 1 n content) (sym same) holds)
+
+pub returns-in_err-done-clause-slots_first : goal.returns-in_err-done-clause-slots_first
+returns-in_err-done-clause-slots_first g c cells base content drafts holds =
+    let p = err_from_is_err_and c.from_residual-in_err-done.result c.from_residual-in_err-done.ensures.1 in
+    rw (p.1, p.2) (any_says _)
+
+pub returns-in_err-remove-clause-slots_first : goal.returns-in_err-remove-clause-slots_first
+returns-in_err-remove-clause-slots_first g c cells base content drafts holds =
+    let p = err_from_is_err_and c.from_residual-in_err-remove.result c.from_residual-in_err-remove.ensures.1 in
+    rw (p.1, p.2) (any_says _)
+
+pub returns-clause-slots_first : goal.returns-clause-slots_first
+returns-clause-slots_first g c cells base content drafts holds =
+    let same = c.in_ok-found.ensures.same_base cells base content drafts holds in
+    let its : HoldsColumn cells 1 c.in_ok-found.found.chunk.base content = subst (λ n. HoldsColumn cells 1 n content) (sym same) holds in
+    let hit = if_some_at c.in_ok-found.found.hit c.in-Some.hit _ c.in-Some.is c.in_ok-found.ensures.hit in
+    let at = some_at c.in_ok-found.found.hit c.in-Some.hit _ _ c.in-Some.is (c.in_ok-found.ensures.found cells content drafts its) in
+    let still = drafts_stay _ _ _ _ cells (c.in_ok-done.ensures.nothing c.if-done.false) (λ below. g.met.C.Cells.stays _ _ below c.replace.ensures.keeps) (c.locate.ensures.stays cells drafts) in
+    let d = c.in_ok-remove.ensures.dropped cells content c.args.key.now still its (c.in_ok-found.ensures.spelled cells drafts) c.in_ok-found.ensures.number.0 hit at in
+    c.insert-2.ensures.slots_first d.0 (dropped content c.args.key.now) d.1 (subst (λ n. HoldsColumn d.0 1 n (dropped content c.args.key.now)) (sym c.remove.ensures.base.0) d.2.holds)

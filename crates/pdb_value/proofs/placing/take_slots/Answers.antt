@@ -1,4 +1,5 @@
-use Rattle.std.proofs.Common.{◌≡◌, ◌<◌, ◌≤◌, ◌+◌, ℕ, suc, List, length, refl, sym, ap, subst, ◌∙◌, arith}
+use Rattle.std.proofs.Common.{◌≡◌, ◌<◌, ◌≤◌, ◌+◌, ℕ, suc, List, All, length, refl, sym, ap, subst, ◌∙◌, arith}
+use Rattle.std.proofs.lemmas.List.Elements.{All-push}
 use Rattle.std.proofs.lemmas.Result.{err_from_is_err_and}
 use Rattle.pdb_cells.specs.Content.{Content}
 use Rattle.pdb_model.specs.Tables.{taken_many}
@@ -28,6 +29,7 @@ loop-alloc-preserved g c =
       same = g.met.C.Cells.on _ _ _ c.loop-alloc.invariant.same c.take_slot.ensures.keeps;
       counted = c.in_ok-slot.ensures.counted ∙ c.loop-alloc.invariant.counted;
       within = omega (arith, c.len.ensures, n);
+      slots = subst (All (λ s. 1 ≤ s)) (sym c.in_ok-push.ensures.items) (All-push (λ s. 1 ≤ s) c.loop-alloc.slots.items _ c.loop-alloc.invariant.slots c.in_ok-slot.ensures.slot);
       taken = λ cells drafts.
           let at = c.loop-alloc.invariant.taken cells drafts in
           let step = c.in_ok-slot.ensures.taken at.0 at.1 in (

@@ -1,4 +1,4 @@
-use Rattle.std.proofs.Common.{◌≡◌, ◌≤◌, ◌-◌, length}
+use Rattle.std.proofs.Common.{◌≡◌, ◌≤◌, ◌-◌, All, length}
 use Rattle.pdb_cells.specs.Content.{Content}
 use Rattle.pdb_value.specs.Faults.{Drafts}
 use Rattle.pdb_value.specs.inner.Many.{AreTaken}
@@ -10,6 +10,7 @@ invariant-loop-alloc g l = record {
   same : g.C.Cells.same l.initial.d.under.now l.d.under.now;
   counted : g.C.Cells.fault_count l.d.under.now ≡ g.C.Cells.fault_count l.initial.d.under.now;
   within : length l.slots.items ≤ l.fn.count;
+  slots : All (λ s. 1 ≤ s) l.slots.items;
   taken : (cells : Content) → Drafts l.initial.d.puts (g.C.Cells.seen l.initial.d.under.now) cells
       → (now : Content) × Drafts l.d.puts (g.C.Cells.seen l.d.under.now) now × AreTaken l.fn.column (length l.slots.items) cells now l.slots.items;
 }

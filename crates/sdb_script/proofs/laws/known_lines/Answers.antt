@@ -22,6 +22,14 @@ pub returns-clause-read : goal.returns-clause-read
 unfolding script_on_literals
 returns-clause-read c = refl
 
+pub returns-clause-next : goal.returns-clause-next
+unfolding script_on_literals
+returns-clause-next c = refl
+
+pub returns-clause-list : goal.returns-clause-list
+unfolding script_on_literals
+returns-clause-list c = refl
+
 pub returns-clause-root : goal.returns-clause-root
 unfolding script_on_literals
 returns-clause-root c = refl
