@@ -30,6 +30,3 @@ pub use fault::{ColumnFault, PlanFault};
 pub use laws::plain_keys_stand_as_their_hashes;
 pub use look_up::get;
 pub use planning::plan;
-
-#[cfg(test)]
-mod tests;

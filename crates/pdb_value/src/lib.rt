@@ -35,6 +35,3 @@ pub use pdb_model::Address;
 pub use placing::place;
 pub use refs::{add_ref, drop_ref, replace};
 pub use values::{count, read_into};
-
-#[cfg(test)]
-mod tests;

@@ -3,8 +3,8 @@ ghost use Rattle.pdb_cells.specs.Puts.{IsWholeCell};
 ghost use Rattle.pdb_cells.specs.Sizes.{size_of};
 ghost use Rattle.pdb_column.specs.Answers.{IsStorable};
 
-use super::*;
 use pdb_cells::{CellName, Cells, Draft, HEAD_FILE, MapCells, OutOfMemory, Puts};
+use pdb_column::{ColumnFault, PlanFault, get, plan};
 use sdb_base::{Bytes, NodeHash, Op, Ops};
 use sdb_blake2::hash256;
 use std::alloc::Global;
