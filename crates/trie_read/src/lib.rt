@@ -8,7 +8,8 @@
 //!
 //! The laws say without going down a trie what the lists of its nodes are: they rise by path, a node hangs exactly where
 //! keys part, a node's children are the Merkle values of the nodes below it, each node but the root is named by the one above
-//! it, and two states of one root are one state, unless two different spellings with one hash are among their nodes.
+//! it, no stored node of a state is bad where it hangs, and two states of one root are one state, unless two different spellings
+//! with one hash are among their nodes.
 #![tactic(auto)]
 
 mod descent;
@@ -20,6 +21,7 @@ mod parts;
 mod read_job;
 mod walk_job;
 
+pub use descent::read_at as read_node;
 pub use fault::TrieFault;
 pub use laws::{
     a_key_goes_down_one_child, a_root_binds, a_value_is_at_the_end_of_its_key,
