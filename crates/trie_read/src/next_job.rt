@@ -1,7 +1,7 @@
 ghost use Rattle.std.specs.Prelude.{◌≡◌, ◌++◌, reverse};
 ghost use Rattle.trie_read.specs.inner.Parts.{HasSettled, as_pieces, behind_it, first_two_of, in_front};
 
-use crate::descent::read_at;
+use crate::descent::read_node;
 use crate::fault::TrieFault;
 use crate::parts::{Part, Sought, Stored, parts_at};
 use sdb_base::{Bytes, Nibbles, NodeHash, OutOfMemory};
@@ -74,7 +74,7 @@ impl NextJob {
             unreachable!()
         };
         let hash = wanted.hash;
-        let Some(node) = read_at(wanted.path.len(), bytes) else {
+        let Some(node) = read_node(wanted.path.len(), bytes) else {
             return Err(TrieFault::BadNode { hash });
         };
         let sought = Sought::Above(self.key.as_slice());

@@ -1,7 +1,7 @@
 ghost use Rattle.std.specs.Prelude.{◌≡◌, ◌*◌, ◌≤◌, length, IfOk};
 ghost use Rattle.trie_codec.specs.Slices.{bytes_in};
 
-use crate::descent::{Found, MOST_LEVELS, hash_of, read_at, walk};
+use crate::descent::{Found, MOST_LEVELS, hash_of, read_node, walk};
 use crate::fault::TrieFault;
 use sdb_base::{Bytes, NodeHash, OutOfMemory};
 use std::alloc::Global;
@@ -67,7 +67,7 @@ impl ReadJob {
         let Some(hash) = self.wanted else {
             unreachable!()
         };
-        let Some(node) = read_at(self.at, bytes) else {
+        let Some(node) = read_node(self.at, bytes) else {
             return Err(TrieFault::BadNode { hash });
         };
         match walk(MOST_LEVELS, self.key.as_slice(), self.at, &node) {

@@ -1,4 +1,4 @@
-use crate::descent::read_at;
+use crate::descent::read_node;
 use crate::fault::TrieFault;
 use crate::in_order::go_on;
 use crate::parts::{Part, Sought, Stored, parts_at};
@@ -74,7 +74,7 @@ impl WalkJob {
             unreachable!()
         };
         let hash = wanted.hash;
-        let Some(node) = read_at(wanted.path.len(), bytes) else {
+        let Some(node) = read_node(wanted.path.len(), bytes) else {
             return Err(TrieFault::BadNode { hash });
         };
         let sought = Sought::Beginning(self.prefix.as_slice());

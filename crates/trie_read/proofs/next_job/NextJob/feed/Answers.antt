@@ -20,7 +20,7 @@ returns-clause-sought c = λ m key n todo seeking bytes.
     let new : NextJob = record { alloc = old.alloc; key = old.key; wanted = c.first_of-wanted.result.0; nearest = c.first_of-wanted.result.1 } in
     let q : List ℕ = nibbles_of key in
     let s : Stored = c.in-Some.wanted in
-    let node : Node = node_of_ref c.in-Some-read_at.node in
+    let node : Node = node_of_ref c.in-Some-read_node.node in
     let behind : List Piece = behind_it old.nearest in
     let parts : List Piece = as_pieces c.in-Ok.parts.items in
     let before : Seeks m key (OfNode s.hash.0 s.path.items ∷ behind) seeking.others seeking.nodes (n ∷ todo) =
@@ -29,7 +29,7 @@ returns-clause-sought c = λ m key n todo seeking bytes.
     let are : parts ≡ parts_in (is_above q) (leads_above q) 33 node s.path.items =
     c.in-Ok.ensures ∙ ap₂ (λ (x p : List ℕ). parts_in (is_above x) (leads_above x) 33 node p) (c.as_slice.ensures ∙ seeking.key) c.as_slice-2.ensures in
     let after : (ms : List PathNode) × Seeks m key (first_two_of (parts ++ behind)) (after_two_of (parts ++ behind) ++ seeking.others) ms todo =
-    searched m key seeking.within s.hash.0 s.path.items behind seeking.others parts seeking.nodes n todo node before (ap node_of_bytes (sym bytes) ∙ c.in-Some-read_at.ensures.node) are in
+    searched m key seeking.within s.hash.0 s.path.items behind seeking.others parts seeking.nodes n todo node before (ap node_of_bytes (sym bytes) ∙ c.in-Some-read_node.ensures.node) are in
     let front : in_front new.wanted new.nearest ≡ first_two_of (parts ++ behind) =
     c.first_of-wanted.ensures.front ∙ ap (λ (o : Option Part). first_two_of (parts ++ behind_it o)) c.replace.ensures.value in
     let others : List Piece = after_two_of (parts ++ behind) ++ seeking.others in
@@ -47,7 +47,7 @@ returns-clause-sought c = λ m key n todo seeking bytes.
       stage = search_stage new m key seeking.within others after.0 todo seeks c.first_of-wanted.ensures.settled;
     }
 
-pub returns-in_default-read_at-clause-sound : goal.returns-in_default-read_at-clause-sound
-returns-in_default-read_at-clause-sound c = λ m key n todo waits bytes.
+pub returns-in_default-read_node-clause-sound : goal.returns-in_default-read_node-clause-sound
+returns-in_default-read_node-clause-sound c = λ m key n todo waits bytes.
     let good = good_for_search c.args.self.now c.in-Some.wanted m key n todo c.args.bytes.now c.in-Some.is waits bytes in
-    absurd (not_refused (is_bad_node c.len.result c.args.bytes.now) (ap (λ (at : ℕ). is_bad_node at c.args.bytes.now) c.len.ensures.value ∙ good) c.in_default-read_at.ensures.good)
+    absurd (not_refused (is_bad_node c.len.result c.args.bytes.now) (ap (λ (at : ℕ). is_bad_node at c.args.bytes.now) c.len.ensures.value ∙ good) c.in_default-read_node.ensures.good)

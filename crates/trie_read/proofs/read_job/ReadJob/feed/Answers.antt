@@ -17,10 +17,10 @@ pub returns-in-Ok-clause-read : goal.returns-in-Ok-clause-read
 returns-in-Ok-clause-read c = λ m key n todo reading bytes.
     let j = c.args.self.now in
     let ns : List ℕ = nibbles_of j.key in
-    let found : Node = node_of_ref c.in-Some-read_at.node in
+    let found : Node = node_of_ref c.in-Some-read_node.node in
     let w : WaitsFor j m n todo = reading.stage in
     let f : IsFollowed (suffixes_of m) ns (way_down 33 found (drop j.at ns)) todo =
-    next m reading.within ns j.at n todo w.whole w.bytes w.stored w.nodes found (ap node_of_bytes (sym bytes) ∙ c.in-Some-read_at.ensures.node) in
+    next m reading.within ns j.at n todo w.whole w.bytes w.stored w.nodes found (ap node_of_bytes (sym bytes) ∙ c.in-Some-read_node.ensures.node) in
     let is : Ended (bytes_in c.in-Ended.value) ≡ way_down 33 found (drop j.at ns) =
     c.in-Ended.ensures.outcome ∙ ap (λ (k : List ℕ). way_down 33 found (drop j.at (nibbles_of k))) c.as_slice.ensures in
     record {
@@ -34,10 +34,10 @@ pub returns-in-Wants-clause-read : goal.returns-in-Wants-clause-read
 returns-in-Wants-clause-read c = λ m key n todo reading bytes.
     let j = c.args.self.now in
     let ns : List ℕ = nibbles_of j.key in
-    let found : Node = node_of_ref c.in-Some-read_at.node in
+    let found : Node = node_of_ref c.in-Some-read_node.node in
     let w : WaitsFor j m n todo = reading.stage in
     let f : IsFollowed (suffixes_of m) ns (way_down 33 found (drop j.at ns)) todo =
-    next m reading.within ns j.at n todo w.whole w.bytes w.stored w.nodes found (ap node_of_bytes (sym bytes) ∙ c.in-Some-read_at.ensures.node) in
+    next m reading.within ns j.at n todo w.whole w.bytes w.stored w.nodes found (ap node_of_bytes (sym bytes) ∙ c.in-Some-read_node.ensures.node) in
     let is : Wants c.in-Wants.hash.now (drop c.in-Wants.at ns) ≡ way_down 33 found (drop j.at ns) =
     ap (λ (k : List ℕ). Wants c.in-Wants.hash.now (drop c.in-Wants.at (nibbles_of k))) (sym c.as_slice.ensures)
     ∙ c.in-Wants.ensures.outcome ∙ ap (λ (k : List ℕ). way_down 33 found (drop j.at (nibbles_of k))) c.as_slice.ensures in
@@ -48,7 +48,7 @@ returns-in-Wants-clause-read c = λ m key n todo reading bytes.
           (subst (λ (o : Outcome). IsFollowed (suffixes_of m) ns o todo) (sym is) f);
     }
 
-pub returns-in_default-read_at-clause-sound : goal.returns-in_default-read_at-clause-sound
-returns-in_default-read_at-clause-sound c = λ m key n todo reading bytes.
+pub returns-in_default-read_node-clause-sound : goal.returns-in_default-read_node-clause-sound
+returns-in_default-read_node-clause-sound c = λ m key n todo reading bytes.
     let j = c.args.self.now in
-    absurd (not_refused (is_bad_node j.at c.args.bytes.now) (good_for_read j m key n todo c.args.bytes.now reading bytes) c.in_default-read_at.ensures.good)
+    absurd (not_refused (is_bad_node j.at c.args.bytes.now) (good_for_read j m key n todo c.args.bytes.now reading bytes) c.in_default-read_node.ensures.good)
