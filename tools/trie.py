@@ -1,5 +1,8 @@
 """Polkadot's state trie of a finite map, state version 0, after the Polkadot Host specification: a plain model with which
 the other tools compare. `nodes(state)` lists the spellings that are hashed, root last, and `root(state)` is the root.
+`stored(state)` has the same by rising path. Of changes, pairs of a key and a value or None, `applied(state, changes)` is the
+state after them, `fetched(state, changes)` lists the stored nodes that a change of it fetches, in their order, and
+`delta(state, changes)` has those that it puts and those that it drops, each made from whole states.
 """
 import hashlib
 
@@ -79,6 +82,56 @@ def nodes(state):
 
 def root(state):
     return blake2b_256(nodes(state)[-1])
+
+
+def by_path(state):
+    """Each node's path and spelling, inline ones too, by rising path."""
+    found = []
+
+    def add(path, suffixes):
+        front = shared(suffixes[0][0], suffixes[-1][0])
+        found.append((tuple(path), spelled(suffixes, [])))
+        children = {}
+        for suffix, value in suffixes:
+            if len(suffix) > front:
+                children.setdefault(suffix[front], []).append((suffix[front + 1:], value))
+        for nibble in sorted(children):
+            add(path + suffixes[0][0][:front] + [nibble], children[nibble])
+
+    if state:
+        add([], [(nibbles(key), value) for key, value in sorted(state.items())])
+    else:
+        found.append(((), b"\0"))
+    return found
+
+
+def stored(state):
+    return [(path, node) for path, node in by_path(state) if not path or len(node) >= 32]
+
+
+def applied(state, changes):
+    after = dict(state)
+    for key, value in changes:
+        if value is None:
+            after.pop(key, None)
+        else:
+            after[key] = value
+    return after
+
+
+def fetched(state, changes):
+    after = {path for path, _ in by_path(applied(state, changes))}
+
+    def leads(path):
+        return any(tuple(nibbles(key)[:len(path)]) == path for key, _ in changes)
+
+    on_the_way = [entry for entry in stored(state) if leads(entry[0])]
+    return on_the_way + [entry for entry in stored(state) if not leads(entry[0]) and entry[0] not in after]
+
+
+def delta(state, changes):
+    before, after = stored(state), stored(applied(state, changes))
+    return [entry for entry in after if entry not in before], [entry for entry in before if entry not in after]
 
 
 if __name__ == "__main__":
