@@ -1,0 +1,26 @@
+-- What a log's fields say of the files.
+use Rattle.std.specs.Prelude.{◌≡◌, ◌≤◌, ◌<◌, ◌^◌, ℕ, ◌+◌, ◌-◌, List, [], ◌++◌, length, slice_index, true}
+use Rattle.pdb_disk.specs.Files.{Files}
+use Rattle.pdb_model.specs.Logs.{IsLogFile, gate_file}
+use Rattle.pdb_model.specs.Recovery.{Row}
+use Rattle.pdb_log.specs.Ledger.{AreRows, IsKeptGate, IsSegment, Ledger, StandsInFiles, file_of, records_of, spelled_records}
+use Rattle.pdb_log.specs.declared.log.Log.{Log}
+
+-- The log stands for these rows, the one at place f being that of the last flushed record, and its records lie in the files as
+-- the ledger says.
+pub record IsLog {D : Type 0} (tells : D → Type 0) (clock : D → ℕ) (past : D → ℕ → Files) (log : Log D) (l : Ledger) (rows : List Row) (f : ℕ) : Type 0 where
+  pub told : tells log.disk
+  pub stands : StandsInFiles (past log.disk (clock log.disk)) l
+  pub gate : IsKeptGate (past log.disk (clock log.disk) gate_file) l.gate
+  pub gate_read : (past log.disk (clock log.disk) gate_file).read ≡ (past log.disk (clock log.disk) gate_file).kept
+  pub segments : (j : ℕ) → IsLogFile j → IsSegment (past log.disk (clock log.disk) j) (l.segments j)
+  pub are : AreRows rows f (past log.disk (clock log.disk)) l
+  pub len : length rows ≡ f + length l.rest + 1
+  pub read : (j : ℕ) → IsLogFile j → (past log.disk (clock log.disk) j).read ≡ file_of (spelled_records (records_of (l.segments j)))
+  -- the fields
+  pub gate_is : log.gate ≡ l.gate
+  pub file : IsLogFile log.file
+  pub ends : (j : ℕ) → IsLogFile j → slice_index log.ends j ≡ length (spelled_records (records_of (l.segments j)))
+  pub within : (j : ℕ) → IsLogFile j → length (spelled_records (records_of (l.segments j))) ≤ 2 ^ 62
+  pub in_file : log.number + 1 ≡ (l.segments log.file).first + length (records_of (l.segments log.file))
+  pub in_log : log.number ≡ l.gate.number + length (l.flushed ++ l.rest)
