@@ -1,7 +1,9 @@
 -- What a log's fields say of the files.
-use Rattle.std.specs.Prelude.{◌≡◌, ◌≤◌, ◌<◌, ◌^◌, ℕ, ◌+◌, ◌-◌, List, [], ◌++◌, length, slice_index, true}
+use Rattle.std.specs.Prelude.{◌≡◌, ◌≤◌, ℕ, ◌+◌, List, ◌++◌, Contains, length, slice_index}
+use Rattle.pdb_cells.specs.declared.Put.{Put}
 use Rattle.pdb_disk.specs.Files.{Files}
-use Rattle.pdb_model.specs.Logs.{IsLogFile, gate_file}
+use Rattle.pdb_model.specs.Logs.{IsLogFile, gate_file, most_in_log}
+use Rattle.pdb_model.specs.Records.{Record}
 use Rattle.pdb_model.specs.Recovery.{Row}
 use Rattle.pdb_log.specs.Ledger.{AreRows, IsKeptGate, IsSegment, Ledger, StandsInFiles, file_of, records_of, spelled_records}
 use Rattle.pdb_log.specs.declared.log.Log.{Log}
@@ -19,8 +21,18 @@ pub record IsLog {D : Type 0} (tells : D → Type 0) (clock : D → ℕ) (past :
   pub read : (j : ℕ) → IsLogFile j → (past log.disk (clock log.disk) j).read ≡ file_of (spelled_records (records_of (l.segments j)))
   -- the fields
   pub gate_is : log.gate ≡ l.gate
-  pub file : IsLogFile log.file
   pub ends : (j : ℕ) → IsLogFile j → slice_index log.ends j ≡ length (spelled_records (records_of (l.segments j)))
-  pub within : (j : ℕ) → IsLogFile j → length (spelled_records (records_of (l.segments j))) ≤ 2 ^ 62
-  pub in_file : log.number + 1 ≡ (l.segments log.file).first + length (records_of (l.segments log.file))
+  pub within : (j : ℕ) → IsLogFile j → length (spelled_records (records_of (l.segments j))) ≤ most_in_log
+  pub synced : (j : ℕ) → IsLogFile j → slice_index log.synced j ≡ length (spelled_records (l.segments j).kept)
+  pub lasts : (j : ℕ) → IsLogFile j → slice_index log.last j + 1 ≡ (l.segments j).first + length (records_of (l.segments j))
+  -- what isn't synced in its file isn't flushed
+  pub unflushed : (j : ℕ) (r : Record) → IsLogFile j → Contains (l.segments j).pending r → Contains l.rest r
+  pub in_file : log.number + 1 ≡ (l.segments log.file.number).first + length (records_of (l.segments log.file.number))
   pub in_log : log.number ≡ l.gate.number + length (l.flushed ++ l.rest)
+
+-- the record that comes next, and where the current file ends
+abbrev pub next_record : {D : Type 0} → Log D → ℕ → List Put → Record
+next_record log commits puts = record { number = log.number + 1; commits = commits; puts = puts }
+
+abbrev pub end_of_log : {D : Type 0} → Log D → ℕ
+end_of_log log = slice_index log.ends log.file.number

@@ -10,6 +10,7 @@
 
 mod fault;
 mod log;
+mod ring_file;
 
 pub use fault::LogFault;
 pub use log::{Log, LogPlace};

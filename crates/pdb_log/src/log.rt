@@ -1,5 +1,26 @@
+ghost use Rattle.std.specs.Prelude.{◌≡◌, ◌≢◌, ◌≤◌, ◌<◌, ◌+◌, ◌-◌, ◌^◌, ◌++◌, ◌↔◌, ℕ, List, [], ◌∷◌, All, IfOk, IsErr, IsErrOf, OnOk, false, length, slice_get, Some};
+ghost use Rattle.sdb_io.specs.Faults.{CountsFault};
+ghost use Rattle.pdb_cells.specs.Puts.{IsWholeCell, NoCellTwice};
+ghost use Rattle.pdb_disk.specs.Moments.{Moments};
+ghost use Rattle.pdb_model.specs.Logs.{IsLogFile, gate_file, most_in_log};
+ghost use Rattle.pdb_model.specs.Records.{body_bytes, record_bytes};
+
+use crate::fault::LogFault;
+use crate::ring_file::RingFile;
+use pdb_cells::{Put, Puts};
 use pdb_disk::Disk;
 use pdb_model::GateSlot;
+use pdb_record::encode;
+use sdb_base::Counter;
+use std::alloc::Global;
+
+// a record ends within so many bytes of its file
+const MOST: u64 = 1 << 62;
+
+// a header and two checksums take so many bytes, a put's file and index so many
+const AROUND_BODY: u64 = 56;
+
+const BEFORE_CELL: u64 = 10;
 
 /// Where a record stands.
 #[derive(Clone, Copy, Debug, PartialEq, Eq)]
@@ -22,11 +43,110 @@ pub struct Log<D: Disk> {
     // the number of the last record, or of the gate
     number: u64,
     // the file to which records are appended
-    file: u16,
-    // how many bytes each log file has; its own place, 0 has none
+    file: RingFile,
+    // how many bytes each log file has, and how many of them are synced; their own places, 0 has none
     ends: [u64; 5],
-    // the number of the last record in each log file
+    synced: [u64; 5],
+    // the number before that of the next record in each log file
     last: [u64; 5],
-    // whether each log file has records that aren't synced
-    unsynced: [bool; 5],
+}
+
+/// How many bytes the record of these puts has.
+fn record_len(puts: &[Put]) -> u64
+    requires { length (body_bytes puts.now) ≤ 2 ^ 62 }
+    ensures { result ≡ 56 + length (body_bytes puts.now) }
+{
+    let mut len = AROUND_BODY;
+    for put in puts {
+        len += BEFORE_CELL + put.bytes.len() as u64;
+    }
+    len
+}
+
+impl<D: Disk> Log<D> {
+    ghost use Rattle.pdb_model.specs.Recovery.{Row, Safe};
+    ghost use Rattle.pdb_log.specs.Answers.{log_disk_fails};
+    ghost use Rattle.pdb_log.specs.Ledger.{AreRows, IsEmptyFile, IsKeptGate, Ledger, appended, fresh_ledger, row_after};
+    ghost use Rattle.pdb_log.specs.Standing.{IsLog, end_of_log, next_record};
+
+    /// The log after a gate that is in force, where all log files are empty.
+    pub fn begin(disk: D, gate: GateSlot) -> Log<D>
+        ensures begun { (row : Row) → D.tells disk
+            → IsKeptGate (D.past disk (D.clock disk) gate_file) gate
+            → (D.past disk (D.clock disk) gate_file).read ≡ (D.past disk (D.clock disk) gate_file).kept
+            → ((j : ℕ) → IsLogFile j → IsEmptyFile (D.past disk (D.clock disk) j))
+            → AreRows (row ∷ []) 0 (D.past disk (D.clock disk)) (fresh_ledger gate)
+            → IsLog D.tells D.clock D.past result (fresh_ledger gate) (row ∷ []) 0 }
+        ensures disk { result.disk ≡ disk }
+    {
+        Log {
+            disk,
+            gate,
+            number: gate.number,
+            file: RingFile::first(),
+            ends: [0; 5],
+            synced: [0; 5],
+            last: [gate.number; 5],
+        }
+    }
+
+    /// Writes the record of these puts after the last one of the current file. `commits` is the number of commits in all
+    /// records up to and with it. No cell is put twice, and each put is of a whole cell. `OutOfMemory` and `NumbersEnd`
+    /// change nothing.
+    pub fn append(&mut self, alloc: Global, commits: u64, puts: &Puts) -> Result<LogPlace, LogFault>
+        requires short { length (body_bytes puts.now) ≤ 2 ^ 62 }
+        requires whole { All IsWholeCell puts.now }
+        requires once { NoCellTwice puts.now }
+        ensures appended { (l : Ledger) → (rows : List Row) → (f : ℕ) → (row : Row)
+            → IsLog D.tells D.clock D.past self.old l rows f → slice_get rows (f + length l.rest) ≡ Some row
+            → OnOk result (IsLog D.tells D.clock D.past self.new (appended l self.old.file.number (next_record self.old commits puts.now))
+            (rows ++ row_after row (next_record self.old commits puts.now) ∷ []) f) }
+        ensures any_moment { (l : Ledger) → (rows : List Row) → (f : ℕ) → (row : Row)
+            → IsLog D.tells D.clock D.past self.old l rows f → slice_get rows (f + length l.rest) ≡ Some row
+            → Moments (D.clock self.old.disk) (D.clock self.new.disk) (D.past self.old.disk) (D.past self.new.disk)
+            (Safe (rows ++ row_after row (next_record self.old commits puts.now) ∷ []) f) }
+        ensures unchanged { IsErr result → log_disk_fails result ≡ false → self.new ≡ self.old }
+        ensures place { IfOk result (λ p. p ≡ record {
+          number = self.old.number + 1;
+          file = self.old.file.number;
+          at = end_of_log self.old;
+          len = length (record_bytes (next_record self.old commits puts.now));
+        }) }
+        ensures records_end { IsErrOf result (LogFault.NumbersEnd Counter.Records) ↔ (self.old.number ≡ 2 ^ 64 - 1) }
+        ensures bytes_end { IsErrOf result (LogFault.NumbersEnd Counter.LogBytes) ↔ ((self.old.number ≢ 2 ^ 64 - 1)
+            × (most_in_log < end_of_log self.old + length (record_bytes (next_record self.old commits puts.now)))) }
+        ensures counted { CountsFault (log_disk_fails result) (D.fault_count self.old.disk) (D.fault_count self.new.disk) }
+    {
+        if self.number == u64::MAX {
+            return Err(LogFault::NumbersEnd {
+                which: Counter::Records,
+            });
+        }
+        let file = self.file.number;
+        let at = self.ends[file as usize];
+        let len = record_len(puts.as_slice());
+        if at > MOST || len > MOST - at {
+            return Err(LogFault::NumbersEnd {
+                which: Counter::LogBytes,
+            });
+        }
+        let number = self.number + 1;
+        let Ok(bytes) = encode(alloc, number, commits, puts) else {
+            return Err(LogFault::OutOfMemory);
+        };
+        match self.disk.write_at(file, at, bytes.as_slice()) {
+            Ok(()) => {
+                self.number = number;
+                self.ends[file as usize] = at + len;
+                self.last[file as usize] = number;
+                Ok(LogPlace {
+                    number,
+                    file,
+                    at,
+                    len,
+                })
+            }
+            Err(fault) => Err(LogFault::Disk(fault)),
+        }
+    }
 }

@@ -1,0 +1,9 @@
+pub mod Bytes
+pub mod Members
+pub mod Scans
+pub mod Segments
+pub mod Taken
+pub mod Images
+pub mod Rows
+pub mod Ledgers
+pub mod Logs
