@@ -7,3 +7,5 @@ pub mod Images
 pub mod Rows
 pub mod Ledgers
 pub mod Logs
+pub mod Syncs
+pub mod Turns

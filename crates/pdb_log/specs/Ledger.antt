@@ -89,6 +89,10 @@ appended l file r = record l {
 abbrev pub file_synced : Ledger → ℕ → Ledger
 file_synced l file = record l { segments = with_segment l.segments file (record { first = (l.segments file).first; kept = records_of (l.segments file); pending = [] }) }
 
+-- each log file was synced
+abbrev pub files_synced : Ledger → Ledger
+files_synced l = file_synced (file_synced (file_synced (file_synced l 1) 2) 3) 4
+
 -- all records are flushed
 abbrev pub all_flushed : Ledger → Ledger
 all_flushed l = record l { flushed = l.flushed ++ l.rest; rest = [] }

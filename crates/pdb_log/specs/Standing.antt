@@ -1,11 +1,11 @@
 -- What a log's fields say of the files.
-use Rattle.std.specs.Prelude.{◌≡◌, ◌≤◌, ℕ, ◌+◌, List, ◌++◌, Contains, length, slice_index}
+use Rattle.std.specs.Prelude.{◌≡◌, ◌≤◌, ◌==◌, ◌&&◌, ℕ, ◌+◌, Bool, List, ◌++◌, Contains, if◌then◌else◌, length, nat_le, slice_index}
 use Rattle.pdb_cells.specs.declared.Put.{Put}
 use Rattle.pdb_disk.specs.Files.{Files}
 use Rattle.pdb_model.specs.Logs.{IsLogFile, gate_file, most_in_log}
 use Rattle.pdb_model.specs.Records.{Record}
 use Rattle.pdb_model.specs.Recovery.{Row}
-use Rattle.pdb_log.specs.Ledger.{AreRows, IsKeptGate, IsSegment, Ledger, StandsInFiles, file_of, records_of, spelled_records}
+use Rattle.pdb_log.specs.Ledger.{AreRows, IsKeptGate, IsSegment, Ledger, StandsInFiles, emptied, file_of, records_of, spelled_records}
 use Rattle.pdb_log.specs.declared.log.Log.{Log}
 
 -- The log stands for these rows, the one at place f being that of the last flushed record, and its records lie in the files as
@@ -36,3 +36,15 @@ next_record log commits puts = record { number = log.number + 1; commits = commi
 
 abbrev pub end_of_log : {D : Type 0} → Log D → ℕ
 end_of_log log = slice_index log.ends log.file.number
+
+-- the log file after this one
+abbrev pub next_in_ring : ℕ → ℕ
+next_in_ring file = if file == 4 then 1 else file + 1
+
+-- the current file has its bytes, and the next one is empty
+abbrev pub turns : {D : Type 0} → Log D → Bool
+turns log = nat_le 262144 (end_of_log log) && (slice_index log.ends (next_in_ring log.file.number) == 0)
+
+-- the next file becomes current where that is so
+abbrev pub turned : {D : Type 0} → Log D → Ledger → Ledger
+turned log l = if turns log then emptied l (next_in_ring log.file.number) (log.number + 1) else l

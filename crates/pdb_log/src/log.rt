@@ -1,4 +1,4 @@
-ghost use Rattle.std.specs.Prelude.{◌≡◌, ◌≢◌, ◌≤◌, ◌<◌, ◌+◌, ◌-◌, ◌^◌, ◌++◌, ◌↔◌, ℕ, List, [], ◌∷◌, All, IfOk, IsErr, IsErrOf, OnOk, false, length, slice_get, Some};
+ghost use Rattle.std.specs.Prelude.{◌≡◌, ◌≢◌, ◌≤◌, ◌<◌, ◌+◌, ◌-◌, ◌^◌, ◌++◌, ◌↔◌, ℕ, List, [], ◌∷◌, All, IfOk, IsErr, IsErrOf, OnOk, false, is_err, length, slice_get, slice_index, Some, if◌then◌else◌};
 ghost use Rattle.sdb_io.specs.Faults.{CountsFault};
 ghost use Rattle.pdb_cells.specs.Puts.{IsWholeCell, NoCellTwice};
 ghost use Rattle.pdb_disk.specs.Moments.{Moments};
@@ -8,7 +8,7 @@ ghost use Rattle.pdb_model.specs.Records.{body_bytes, record_bytes};
 use crate::fault::LogFault;
 use crate::ring_file::RingFile;
 use pdb_cells::{Put, Puts};
-use pdb_disk::Disk;
+use pdb_disk::{Disk, DiskFault};
 use pdb_model::GateSlot;
 use pdb_record::encode;
 use sdb_base::Counter;
@@ -16,6 +16,9 @@ use std::alloc::Global;
 
 // a record ends within so many bytes of its file
 const MOST: u64 = 1 << 62;
+
+// a file with so many bytes is followed by the next of the ring
+const FULL: u64 = 262_144;
 
 // a header and two checksums take so many bytes, a put's file and index so many
 const AROUND_BODY: u64 = 56;
@@ -66,8 +69,8 @@ fn record_len(puts: &[Put]) -> u64
 impl<D: Disk> Log<D> {
     ghost use Rattle.pdb_model.specs.Recovery.{Row, Safe};
     ghost use Rattle.pdb_log.specs.Answers.{log_disk_fails};
-    ghost use Rattle.pdb_log.specs.Ledger.{AreRows, IsEmptyFile, IsKeptGate, Ledger, appended, fresh_ledger, row_after};
-    ghost use Rattle.pdb_log.specs.Standing.{IsLog, end_of_log, next_record};
+    ghost use Rattle.pdb_log.specs.Ledger.{AreRows, IsEmptyFile, IsKeptGate, Ledger, all_flushed, appended, file_synced, files_synced, fresh_ledger, row_after};
+    ghost use Rattle.pdb_log.specs.Standing.{IsLog, end_of_log, next_in_ring, next_record, turned, turns};
 
     /// The log after a gate that is in force, where all log files are empty.
     pub fn begin(disk: D, gate: GateSlot) -> Log<D>
@@ -148,5 +151,74 @@ impl<D: Disk> Log<D> {
             }
             Err(fault) => Err(LogFault::Disk(fault)),
         }
+    }
+
+    /// Makes the next log file current where this one has 262,144 bytes or more and the next one is empty. It makes no
+    /// device call.
+    pub fn rotate(&mut self)
+        ensures turned { (l : Ledger) → (rows : List Row) → (f : ℕ) → IsLog D.tells D.clock D.past self.old l rows f
+            → IsLog D.tells D.clock D.past self.new (turned self.old l) rows f }
+        ensures current { self.new.file.number ≡ (if turns self.old then next_in_ring self.old.file.number else self.old.file.number) }
+        ensures disk { self.new.disk ≡ self.old.disk }
+        ensures number { self.new.number ≡ self.old.number }
+        ensures stays { turns self.old ≡ false → self.new ≡ self.old }
+    {
+        let next = self.file.next();
+        if self.ends[self.file.number as usize] >= FULL && self.ends[next.number as usize] == 0 {
+            self.file = next;
+            self.last[next.number as usize] = self.number;
+        }
+    }
+
+    /// Syncs one log file.
+    fn sync_file(&mut self, file: u16) -> Result<(), DiskFault>
+        requires { IsLogFile file }
+        ensures synced { (l : Ledger) → (rows : List Row) → (f : ℕ) → IsLog D.tells D.clock D.past self.old l rows f
+            → OnOk result (IsLog D.tells D.clock D.past self.new (file_synced l file) rows f) }
+        ensures any_moment { (l : Ledger) → (rows : List Row) → (f : ℕ) → IsLog D.tells D.clock D.past self.old l rows f
+            → Moments (D.clock self.old.disk) (D.clock self.new.disk) (D.past self.old.disk) (D.past self.new.disk) (Safe rows f) }
+        ensures counted { CountsFault (is_err result) (D.fault_count self.old.disk) (D.fault_count self.new.disk) }
+    {
+        match self.disk.sync(file) {
+            Ok(()) => {
+                self.synced[file as usize] = self.ends[file as usize];
+                Ok(())
+            }
+            Err(fault) => Err(fault),
+        }
+    }
+
+    /// Syncs one log file where it has records that aren't synced.
+    fn sync_records(&mut self, file: u16) -> Result<(), DiskFault>
+        requires { IsLogFile file }
+        ensures synced { (l : Ledger) → (rows : List Row) → (f : ℕ) → IsLog D.tells D.clock D.past self.old l rows f
+            → OnOk result (IsLog D.tells D.clock D.past self.new (file_synced l file) rows f) }
+        ensures any_moment { (l : Ledger) → (rows : List Row) → (f : ℕ) → IsLog D.tells D.clock D.past self.old l rows f
+            → Moments (D.clock self.old.disk) (D.clock self.new.disk) (D.past self.old.disk) (D.past self.new.disk) (Safe rows f) }
+        ensures idle { slice_index self.old.ends file ≤ slice_index self.old.synced file → self.new ≡ self.old }
+        ensures counted { CountsFault (is_err result) (D.fault_count self.old.disk) (D.fault_count self.new.disk) }
+    {
+        if self.synced[file as usize] < self.ends[file as usize] {
+            return self.sync_file(file);
+        }
+        Ok(())
+    }
+
+    /// Syncs the log files that have records that aren't synced. After that all records are flushed. It makes no device
+    /// call where there are none.
+    pub fn flush(&mut self) -> Result<(), DiskFault>
+        ensures flushed { (l : Ledger) → (rows : List Row) → (f : ℕ) → IsLog D.tells D.clock D.past self.old l rows f
+            → OnOk result (IsLog D.tells D.clock D.past self.new (all_flushed (files_synced l)) rows (f + length l.rest)) }
+        ensures any_moment { (l : Ledger) → (rows : List Row) → (f : ℕ) → IsLog D.tells D.clock D.past self.old l rows f
+            → Moments (D.clock self.old.disk) (D.clock self.new.disk) (D.past self.old.disk) (D.past self.new.disk) (Safe rows f) }
+        ensures idle { (l : Ledger) → (rows : List Row) → (f : ℕ) → IsLog D.tells D.clock D.past self.old l rows f
+            → ((j : ℕ) → IsLogFile j → (l.segments j).pending ≡ []) → self.new ≡ self.old }
+        ensures counted { CountsFault (is_err result) (D.fault_count self.old.disk) (D.fault_count self.new.disk) }
+    {
+        self.sync_records(1)?;
+        self.sync_records(2)?;
+        self.sync_records(3)?;
+        self.sync_records(4)?;
+        Ok(())
     }
 }
