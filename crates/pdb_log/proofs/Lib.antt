@@ -9,3 +9,5 @@ pub mod Ledgers
 pub mod Logs
 pub mod Syncs
 pub mod Turns
+pub mod Cells
+pub mod Passes

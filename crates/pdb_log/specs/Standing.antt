@@ -1,5 +1,5 @@
 -- What a log's fields say of the files.
-use Rattle.std.specs.Prelude.{◌≡◌, ◌≤◌, ◌==◌, ◌&&◌, ℕ, ◌+◌, Bool, List, ◌++◌, Contains, if◌then◌else◌, length, nat_le, slice_index}
+use Rattle.std.specs.Prelude.{◌≡◌, ◌≤◌, ◌==◌, ◌&&◌, ℕ, ◌+◌, ◌*◌, Bool, List, ◌++◌, Contains, if◌then◌else◌, length, nat_le, slice_index}
 use Rattle.pdb_cells.specs.declared.Put.{Put}
 use Rattle.pdb_disk.specs.Files.{Files}
 use Rattle.pdb_model.specs.Logs.{IsLogFile, gate_file, most_in_log}
@@ -48,3 +48,9 @@ turns log = nat_le 262144 (end_of_log log) && (slice_index log.ends (next_in_rin
 -- the next file becomes current where that is so
 abbrev pub turned : {D : Type 0} → Log D → Ledger → Ledger
 turned log l = if turns log then emptied l (next_in_ring log.file.number) (log.number + 1) else l
+
+-- these bytes at this place of a file are the cell that is put
+pub record IsCellAt (p : Put) (file at : ℕ) (bytes : List ℕ) : Type 0 where
+  pub here : p.name.file ≡ file
+  pub place : p.name.index * length p.bytes ≡ at
+  pub same : p.bytes ≡ bytes

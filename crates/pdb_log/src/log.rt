@@ -1,9 +1,12 @@
-ghost use Rattle.std.specs.Prelude.{◌≡◌, ◌≢◌, ◌≤◌, ◌<◌, ◌+◌, ◌-◌, ◌^◌, ◌++◌, ◌↔◌, ℕ, List, [], ◌∷◌, All, IfOk, IsErr, IsErrOf, OnOk, false, is_err, length, slice_get, slice_index, Some, if◌then◌else◌};
+ghost use Rattle.std.specs.Prelude.{◌≡◌, ◌≢◌, ◌≤◌, ◌<◌, ◌+◌, ◌-◌, ◌^◌, ◌++◌, ◌↔◌, ℕ, List, [], ◌∷◌, All, Contains, IfErr, IfOk, IsErr, IsErrOf, OnOk, false, is_err, length, slice_get, slice_index, Some, if◌then◌else◌};
 ghost use Rattle.sdb_io.specs.Faults.{CountsFault};
 ghost use Rattle.pdb_cells.specs.Puts.{IsWholeCell, NoCellTwice};
+ghost use Rattle.pdb_cells.specs.declared.Put.{Put};
+ghost use Rattle.pdb_disk.specs.Files.{Begins, Settles, StandsAt, done};
+ghost use Rattle.pdb_disk.specs.Files.{Step as step};
 ghost use Rattle.pdb_disk.specs.Moments.{Moments};
 ghost use Rattle.pdb_model.specs.Logs.{IsLogFile, gate_file, most_in_log};
-ghost use Rattle.pdb_model.specs.Records.{body_bytes, record_bytes};
+ghost use Rattle.pdb_model.specs.Records.{Record, body_bytes, record_bytes};
 
 use crate::fault::LogFault;
 use crate::ring_file::RingFile;
@@ -70,7 +73,7 @@ impl<D: Disk> Log<D> {
     ghost use Rattle.pdb_model.specs.Recovery.{Row, Safe};
     ghost use Rattle.pdb_log.specs.Answers.{log_disk_fails};
     ghost use Rattle.pdb_log.specs.Ledger.{AreRows, IsEmptyFile, IsKeptGate, Ledger, all_flushed, appended, file_synced, files_synced, fresh_ledger, row_after};
-    ghost use Rattle.pdb_log.specs.Standing.{IsLog, end_of_log, next_in_ring, next_record, turned, turns};
+    ghost use Rattle.pdb_log.specs.Standing.{IsCellAt, IsLog, end_of_log, next_in_ring, next_record, turned, turns};
 
     /// The log after a gate that is in force, where all log files are empty.
     pub fn begin(disk: D, gate: GateSlot) -> Log<D>
@@ -220,5 +223,99 @@ impl<D: Disk> Log<D> {
         self.sync_records(3)?;
         self.sync_records(4)?;
         Ok(())
+    }
+
+    /// Fills `into` with the bytes of a file from `at` on.
+    pub fn read_at(&mut self, file: u16, at: u64, into: &mut [u8]) -> Result<(), DiskFault>
+        requires { at + length into.old ≤ 2 ^ 63 }
+        ensures stands { (l : Ledger) → (rows : List Row) → (f : ℕ) → IsLog D.tells D.clock D.past self.old l rows f
+            → IsLog D.tells D.clock D.past self.new l rows f }
+        ensures bytes { OnOk result (D.tells self.old.disk
+            → StandsAt (D.past self.old.disk (D.clock self.old.disk) file).read at into.new) }
+        ensures time { D.clock self.new.disk ≡ D.clock self.old.disk }
+        ensures unchanged { D.past self.new.disk ≡ D.past self.old.disk }
+        ensures fault { IfErr result (λ e. e ≡ DiskFault.Read) }
+        ensures counted { CountsFault (is_err result) (D.fault_count self.old.disk) (D.fault_count self.new.disk) }
+        ensures reads { D.read_count self.old.disk ≤ D.read_count self.new.disk }
+        ensures one_read { D.read_count self.new.disk ≤ D.read_count self.old.disk + 1 }
+    {
+        match self.disk.read_at(file, at, into) {
+            Ok(()) => Ok(()),
+            Err(fault) => Err(fault),
+        }
+    }
+
+    /// Writes bytes to a file of cells. Where they are those of a cell that a flushed record puts, the log stays safe,
+    /// also where the write fails.
+    pub fn write_at(&mut self, file: u16, at: u64, bytes: &[u8]) -> Result<(), DiskFault>
+        requires within { at + length bytes.now ≤ 2 ^ 63 }
+        requires cells { 9 ≤ file }
+        ensures stands { (l : Ledger) → (rows : List Row) → (f : ℕ) → (r : Record) → (p : Put)
+            → IsLog D.tells D.clock D.past self.old l rows f → Contains l.flushed r → Contains r.puts p → IsCellAt p file at bytes.now
+            → IsLog D.tells D.clock D.past self.new l rows f }
+        ensures any_moment { (l : Ledger) → (rows : List Row) → (f : ℕ) → (r : Record) → (p : Put)
+            → IsLog D.tells D.clock D.past self.old l rows f → Contains l.flushed r → Contains r.puts p → IsCellAt p file at bytes.now
+            → Moments (D.clock self.old.disk) (D.clock self.new.disk) (D.past self.old.disk) (D.past self.new.disk) (Safe rows f) }
+        ensures begun { OnOk result (D.tells self.old.disk → Begins file (step.Write at bytes.now)
+            (D.past self.old.disk (D.clock self.old.disk)) (D.past self.new.disk (D.clock self.new.disk))) }
+        ensures written { OnOk result (D.tells self.old.disk → (D.past self.new.disk (D.clock self.new.disk) file).read
+            ≡ done (D.past self.old.disk (D.clock self.old.disk) file).read (step.Write at bytes.now)) }
+        ensures fault { IfErr result (λ e. e ≡ DiskFault.Write) }
+        ensures counted { CountsFault (is_err result) (D.fault_count self.old.disk) (D.fault_count self.new.disk) }
+        ensures reads { D.read_count self.new.disk ≡ D.read_count self.old.disk }
+    {
+        match self.disk.write_at(file, at, bytes) {
+            Ok(()) => Ok(()),
+            Err(fault) => Err(fault),
+        }
+    }
+
+    /// Syncs a file of cells.
+    pub fn sync(&mut self, file: u16) -> Result<(), DiskFault>
+        requires { 9 ≤ file }
+        ensures stands { (l : Ledger) → (rows : List Row) → (f : ℕ) → IsLog D.tells D.clock D.past self.old l rows f
+            → IsLog D.tells D.clock D.past self.new l rows f }
+        ensures any_moment { (l : Ledger) → (rows : List Row) → (f : ℕ) → IsLog D.tells D.clock D.past self.old l rows f
+            → Moments (D.clock self.old.disk) (D.clock self.new.disk) (D.past self.old.disk) (D.past self.new.disk) (Safe rows f) }
+        ensures synced { OnOk result (D.tells self.old.disk
+            → Settles file (D.past self.old.disk (D.clock self.old.disk)) (D.past self.new.disk (D.clock self.new.disk))) }
+        ensures fault { IfErr result (λ e. e ≡ DiskFault.Sync) }
+        ensures counted { CountsFault (is_err result) (D.fault_count self.old.disk) (D.fault_count self.new.disk) }
+        ensures reads { D.read_count self.new.disk ≡ D.read_count self.old.disk }
+    {
+        match self.disk.sync(file) {
+            Ok(()) => Ok(()),
+            Err(fault) => Err(fault),
+        }
+    }
+
+    /// The gate in force.
+    pub fn gate(&self) -> GateSlot
+        ensures { result ≡ self.now.gate }
+    {
+        self.gate
+    }
+
+    /// The disk.
+    pub fn disk(&self) -> &D
+        ensures { result.now ≡ self.now.disk }
+    {
+        &self.disk
+    }
+
+    /// The disk, without the log.
+    pub fn into_disk(self) -> D
+        ensures { result ≡ self.disk }
+    {
+        let Log {
+            disk,
+            gate: _,
+            number: _,
+            file: _,
+            ends: _,
+            synced: _,
+            last: _,
+        } = self;
+        disk
     }
 }
