@@ -10,9 +10,9 @@ use Rattle.pdb_model.specs.Recovery.{Laid, Row, Safe, StoodThere, TearClear}
 use Rattle.pdb_model.specs.Gates.{gate_at, gate_bytes, gate_place}
 use Rattle.pdb_model.specs.Logs.{HasGate}
 use Rattle.pdb_model.specs.declared.gate_slot.GateSlot.{GateSlot}
-use Rattle.pdb_log.specs.Ledger.{AreRows, IsKeptGate, IsRowAt, IsSegment, Ledger, Segment, StandsInFiles, records_of, spelled_records}
+use Rattle.pdb_log.specs.Ledger.{AreRows, IsKeptGate, Ledger, Segment, StandsInFiles, records_of, spelled_records}
 use Rattle.pdb_log.proofs.Members.{In, to_in, from_in, in_nothing, numbered_from, same_member}
-use Rattle.pdb_log.proofs.Segments.{ScanOf, scan_of}
+use Rattle.pdb_log.proofs.Segments.{scan_of}
 use Rattle.pdb_log.proofs.Taken.{taken}
 
 -- what is synced in each log file ends within a log file's bytes

@@ -1,19 +1,19 @@
 -- What one device call makes of a log that stands in its files.
-use Rattle.std.proofs.Common.{◌≡◌, ◌≢◌, ◌⊎◌, inl, inr, ⊎_elim, ℕ, zero, suc, ◌+◌, ◌≤◌, ◌<◌, List, [], ◌∷◌, ◌++◌, length, refl, sym, ◌∙◌, ap, subst, arith, length-append, append_assoc}
+use Rattle.std.proofs.Common.{◌≡◌, ◌≢◌, ◌⊎◌, inl, inr, ⊎_elim, ℕ, ◌+◌, ◌≤◌, ◌<◌, List, [], ◌∷◌, ◌++◌, length, refl, sym, ◌∙◌, ap, subst, arith, length-append, append_assoc}
 use Rattle.std.specs.Prelude.{Contains}
 use Rattle.std.proofs.lemmas.Bool.{cases_eq}
 use Rattle.std.proofs.lemmas.Bool.Decides.{nat_tests}
 use Rattle.std.proofs.lemmas.List.{append-nil}
 use Rattle.std.proofs.lemmas.List.Elements.{Contains-append_left, Contains-append_right, Contains-append_cases}
-use Rattle.pdb_disk.specs.Files.{FileBytes, Step, FileState, Files, Begins, Settles}
+use Rattle.pdb_disk.specs.Files.{Step, FileState, Files, Begins, Settles}
 use Rattle.pdb_disk.specs.Files.{Step as step}
 use Rattle.pdb_model.specs.Logs.{IsLogFile, gate_file}
 use Rattle.pdb_model.specs.Records.{IsRecord, Record, record_bytes}
 use Rattle.pdb_model.specs.declared.gate_slot.GateSlot.{GateSlot}
 use Rattle.pdb_model.specs.Recovery.{Row}
-use Rattle.pdb_log.specs.Ledger.{AreNumbered, AreRows, IsNextGate, IsPassed, IsSegment, IsSpent, Ledger, Segment, StandsInFiles, all_flushed, appended, emptied, file_of, file_synced, passed, records_of, spelled_records, with_segment, writes_of}
+use Rattle.pdb_log.specs.Ledger.{AreNumbered, IsNextGate, IsPassed, IsSegment, IsSpent, Ledger, Segment, StandsInFiles, all_flushed, appended, emptied, file_of, file_synced, passed, records_of, spelled_records, with_segment, writes_of}
 use Rattle.pdb_log.proofs.Bytes.{spelled-append}
-use Rattle.pdb_log.proofs.Members.{from_in, in_none, in_nothing, numbered_from, numbered_push, numbered_rest, numbered_upto}
+use Rattle.pdb_log.proofs.Members.{from_in, in_none, numbered_from, numbered_push, numbered_rest, numbered_upto}
 use Rattle.pdb_log.proofs.Segments.{spent_of}
 
 pub segment_here : (segments : ℕ → Segment) (file : ℕ) (g : Segment) → with_segment segments file g file ≡ g

@@ -11,3 +11,6 @@ pub mod Syncs
 pub mod Turns
 pub mod Cells
 pub mod Passes
+pub mod Gates
+pub mod Cleans
+pub mod Clears

@@ -1,26 +1,25 @@
 -- What the device calls of an append and a flush make of a log, and of its safety at each moment.
-use Rattle.std.proofs.Common.{◌≡◌, ◌≢◌, ◌⊎◌, inl, inr, ⊎_elim, ℕ, zero, suc, ◌+◌, ◌≤◌, ◌<◌, ◌^◌, List, [], ◌∷◌, ◌++◌, length, get_or, All, refl, sym, ◌∙◌, ap, subst, arith, length-append, append_assoc}
+use Rattle.std.proofs.Common.{◌≡◌, ◌≢◌, ⊎_elim, ℕ, ◌+◌, ◌≤◌, ◌<◌, ◌^◌, List, [], ◌∷◌, ◌++◌, length, All, sym, ◌∙◌, ap, subst, arith, length-append}
 use Rattle.std.specs.Prelude.{Contains, Some, set, slice_get, slice_index}
-use Rattle.std.proofs.lemmas.List.{append-nil, get_or-set_same, get_or-set_other}
+use Rattle.std.proofs.lemmas.List.{get_or-set_same, get_or-set_other}
 use Rattle.std.proofs.lemmas.List.Elements.{Contains-append_left, Contains-append_right, Contains-append_cases}
 use Rattle.pdb_cells.specs.Puts.{IsWholeCell, NoCellTwice}
 use Rattle.pdb_cells.specs.declared.Put.{Put}
-use Rattle.pdb_disk.specs.Files.{FileBytes, FileState, Files, Begins, MayBegin, Settles, Elapses, done}
+use Rattle.pdb_disk.specs.Files.{FileBytes, FileState, Files, Begins, MayBegin, Elapses, done}
 use Rattle.pdb_disk.specs.Files.{Step as step}
 use Rattle.pdb_disk.specs.Moments.{Moments}
-use Rattle.pdb_disk.proofs.Calls.{maybe_begun, one_call}
+use Rattle.pdb_disk.proofs.Calls.{one_call}
 use Rattle.pdb_model.specs.Logs.{IsLogFile, gate_file, most_in_log}
 use Rattle.pdb_model.specs.Records.{IsRecord, Record, body_bytes, record_bytes}
 use Rattle.pdb_model.specs.Recovery.{Row, Safe}
 use Rattle.pdb_record.proofs.Splits.{ten_each}
-use Rattle.pdb_log.specs.Ledger.{AreRows, IsKeptGate, IsSegment, Ledger, Segment, StandsInFiles, all_flushed, appended, file_of, file_synced, records_of, row_after, spelled_records}
+use Rattle.pdb_log.specs.Ledger.{AreRows, IsKeptGate, IsSegment, Ledger, Segment, StandsInFiles, appended, file_of, records_of, row_after, spelled_records}
 use Rattle.pdb_log.specs.Standing.{IsLog, end_of_log}
 use Rattle.pdb_log.specs.declared.log.Log.{Log}
 use Rattle.pdb_log.proofs.Bytes.{done_at_end, spelled-append, spelled_push}
 use Rattle.pdb_log.proofs.Images.{KeptWithin, stands_safe}
-use Rattle.pdb_log.proofs.Ledgers.{all_kept, each_segment, flush_stands, longer, not_cells, not_gate, records_kept, records_longer, segment_here, sync_segment, sync_stands, write_segment, write_stands}
-use Rattle.pdb_log.proofs.Members.{in_none}
-use Rattle.pdb_log.proofs.Rows.{append_rows, flush_rows, more_rows, same_rows}
+use Rattle.pdb_log.proofs.Ledgers.{each_segment, longer, not_cells, not_gate, records_longer, segment_here, write_segment, write_stands}
+use Rattle.pdb_log.proofs.Rows.{append_rows, more_rows, same_rows}
 
 -- a list of numbers with another one at a place
 pub record SetTo (xs ys : List ℕ) (i v : ℕ) : Type 0 where

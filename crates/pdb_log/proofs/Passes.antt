@@ -1,5 +1,5 @@
 -- What the calls for cells make of a log, and of its safety at each moment.
-use Rattle.std.proofs.Common.{◌≡◌, ◌≢◌, ⊎_elim, ℕ, ◌+◌, ◌*◌, ◌≤◌, ◌<◌, List, ◌++◌, length, refl, sym, ◌∙◌, ap, subst, arith, inl, inr}
+use Rattle.std.proofs.Common.{◌≡◌, ⊎_elim, ℕ, ◌+◌, ◌*◌, ◌≤◌, ◌<◌, List, ◌++◌, length, sym, ◌∙◌, ap, subst, arith, inl, inr}
 use Rattle.std.specs.Prelude.{Contains, Some, slice_index}
 use Rattle.std.proofs.lemmas.List.Elements.{All-contains, Contains-append_left}
 use Rattle.pdb_cells.specs.Puts.{IsWholeCell}
@@ -9,10 +9,10 @@ use Rattle.pdb_disk.specs.Files.{FileState, Files, Begins, MayBegin, Settles, El
 use Rattle.pdb_disk.specs.Files.{Step as step}
 use Rattle.pdb_disk.specs.Moments.{Moments}
 use Rattle.pdb_disk.proofs.Calls.{one_call}
-use Rattle.pdb_model.specs.Logs.{IsLogFile, gate_file}
+use Rattle.pdb_model.specs.Logs.{gate_file}
 use Rattle.pdb_model.specs.Records.{Record}
 use Rattle.pdb_model.specs.Recovery.{Row, Safe}
-use Rattle.pdb_log.specs.Ledger.{AreRows, IsKeptGate, IsSegment, Ledger, file_of, records_of, spelled_records}
+use Rattle.pdb_log.specs.Ledger.{AreRows, IsKeptGate, IsSegment, Ledger, records_of}
 use Rattle.pdb_log.specs.Standing.{IsCellAt, IsLog}
 use Rattle.pdb_log.specs.declared.log.Log.{Log}
 use Rattle.pdb_log.specs.declared.ring_file.RingFile.{RingFile}

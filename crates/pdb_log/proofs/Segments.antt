@@ -1,12 +1,12 @@
 -- What a scan of a file with the records of a segment comes to, whatever a crash leaves of it.
-use Rattle.std.proofs.Common.{◌≡◌, ⊎_elim, ℕ, zero, suc, ◌+◌, ◌≤◌, ◌<◌, List, [], ◌∷◌, ◌++◌, length, take, drop, refl, sym, ◌∙◌, ap, subst, arith, append_assoc, take-append-drop}
+use Rattle.std.proofs.Common.{◌≡◌, ℕ, zero, suc, ◌+◌, ◌≤◌, ◌<◌, List, [], ◌∷◌, ◌++◌, length, take, drop, refl, sym, ◌∙◌, ap, subst, arith, append_assoc, take-append-drop}
 use Rattle.std.specs.Prelude.{Contains}
 use Rattle.pdb_disk.specs.Files.{FileBytes, FileState, Step, StandsAt, AllSpare, IsFileImage}
 use Rattle.pdb_disk.specs.Files.{Step as step}
 use Rattle.pdb_model.specs.Logs.{AreInARow, IsScanned, StandsWhole, most_in_log}
 use Rattle.pdb_model.specs.Records.{Record, record_bytes}
 use Rattle.pdb_model.specs.Recovery.{after_steps}
-use Rattle.pdb_log.specs.Ledger.{AreNumbered, IsSegment, ScanClear, Segment, file_of, records_of, spelled_records, writes_of}
+use Rattle.pdb_log.specs.Ledger.{AreNumbered, IsSegment, ScanClear, Segment, file_of, records_of, spelled_records}
 use Rattle.pdb_log.proofs.Bytes.{none_in_zeros}
 use Rattle.pdb_log.proofs.Members.{In, to_in, numbered_front}
 use Rattle.pdb_log.proofs.Scans.{Follows, Reaches, front, from_reaches, to_reaches, row_end, next_in, after_writes, writes_spare, standing}

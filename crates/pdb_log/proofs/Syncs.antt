@@ -1,5 +1,5 @@
 -- What the syncs of a flush make of a log, and of its safety at each moment.
-use Rattle.std.proofs.Common.{◌≡◌, ◌≢◌, ◌⊎◌, inl, inr, ⊎_elim, ℕ, zero, suc, ◌+◌, ◌≤◌, ◌<◌, List, [], ◌∷◌, ◌++◌, length, refl, sym, ◌∙◌, ap, subst, arith, length-append}
+use Rattle.std.proofs.Common.{◌≡◌, ◌⊎◌, inl, inr, ⊎_elim, ℕ, ◌+◌, ◌≤◌, List, [], ◌∷◌, ◌++◌, length, refl, sym, ◌∙◌, ap, subst, arith, length-append}
 use Rattle.std.specs.Prelude.{Contains, slice_index}
 use Rattle.std.proofs.lemmas.Bool.{cases_eq}
 use Rattle.std.proofs.lemmas.List.{append-nil}
@@ -9,7 +9,7 @@ use Rattle.pdb_disk.proofs.Calls.{one_call}
 use Rattle.pdb_model.specs.Logs.{IsLogFile, gate_file, most_in_log}
 use Rattle.pdb_model.specs.Records.{Record, record_bytes}
 use Rattle.pdb_model.specs.Recovery.{Row, Safe}
-use Rattle.pdb_log.specs.Ledger.{AreRows, IsKeptGate, IsSegment, Ledger, Segment, StandsInFiles, all_flushed, file_of, file_synced, records_of, spelled_records, with_segment}
+use Rattle.pdb_log.specs.Ledger.{IsKeptGate, IsSegment, Ledger, Segment, all_flushed, file_of, file_synced, records_of, spelled_records, with_segment}
 use Rattle.pdb_log.specs.Standing.{IsLog}
 use Rattle.pdb_log.specs.declared.log.Log.{Log}
 use Rattle.pdb_log.specs.declared.ring_file.RingFile.{RingFile}

@@ -1,5 +1,5 @@
 -- What recovery takes.
-use Rattle.std.proofs.Common.{◌≡◌, ◌⊎◌, inl, inr, ⊎_elim, ℕ, suc, ◌+◌, ◌≤◌, ◌<◌, List, [], ◌∷◌, ◌++◌, length, take, sym, ap, subst, arith}
+use Rattle.std.proofs.Common.{◌⊎◌, inl, inr, ⊎_elim, ℕ, suc, ◌+◌, ◌≤◌, ◌<◌, List, [], ◌∷◌, ◌++◌, length, take, sym, ap, subst, arith}
 use Rattle.pdb_disk.specs.Files.{Image}
 use Rattle.pdb_model.specs.Logs.{AreRecovered, IsFound}
 use Rattle.pdb_model.specs.Records.{Record}

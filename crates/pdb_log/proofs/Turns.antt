@@ -1,15 +1,14 @@
 -- What is made of a log where an empty file becomes current.
-use Rattle.std.proofs.Common.{◌≡◌, ◌≢◌, ◌==◌, ◌&&◌, Bool, true, nat_le, if◌then◌else◌, inl, ℕ, ◌+◌, ◌≤◌, ◌<◌, List, [], ◌∷◌, ◌++◌, length, refl, sym, ◌∙◌, ap, subst, arith, length-append}
+use Rattle.std.proofs.Common.{◌≡◌, ◌==◌, ◌&&◌, Bool, true, nat_le, if◌then◌else◌, inl, ℕ, ◌+◌, ◌≤◌, ◌<◌, List, [], ◌∷◌, ◌++◌, length, refl, sym, ◌∙◌, ap, subst, arith}
 use Rattle.std.specs.Prelude.{Contains, slice_index}
 use Rattle.std.proofs.lemmas.Bool.Decides.{nat_tests}
-use Rattle.pdb_disk.specs.Files.{FileState, Files}
+use Rattle.pdb_disk.specs.Files.{Files}
 use Rattle.pdb_model.specs.Logs.{IsLogFile, gate_file, most_in_log}
 use Rattle.pdb_model.specs.Records.{Record}
 use Rattle.pdb_model.specs.Recovery.{Row}
-use Rattle.pdb_log.specs.Ledger.{AreRows, IsKeptGate, IsSegment, Ledger, Segment, StandsInFiles, emptied, file_of, records_of, spelled_records, with_segment, writes_of}
+use Rattle.pdb_log.specs.Ledger.{AreRows, IsKeptGate, IsSegment, Ledger, Segment, StandsInFiles, emptied, file_of, records_of, spelled_records, writes_of}
 use Rattle.pdb_log.specs.Standing.{IsLog, end_of_log, next_in_ring, turned, turns}
 use Rattle.pdb_log.specs.declared.log.Log.{Log}
-use Rattle.pdb_log.specs.declared.ring_file.RingFile.{RingFile}
 use Rattle.pdb_log.proofs.Ledgers.{Lies, each_segment, segment_here}
 use Rattle.pdb_log.proofs.Logs.{SetTo}
 use Rattle.pdb_log.proofs.Members.{in_none, in_nothing}

@@ -1,10 +1,9 @@
 -- The log as it lies in its files: which records stand where, which of them a sync has kept, and which the gate has passed.
-use Rattle.std.specs.Prelude.{◌≡◌, ◌⊎◌, ℕ, ◌+◌, ◌<◌, ◌≤◌, ◌==◌, List, [], ◌∷◌, ◌++◌, length, take, get_or, slice_get, Some, Contains, if◌then◌else◌}
+use Rattle.std.specs.Prelude.{◌≡◌, ◌⊎◌, ◌&&◌, Bool, ℕ, ◌+◌, ◌<◌, ◌≤◌, ◌==◌, nat_le, nat_lt, List, [], ◌∷◌, ◌++◌, length, take, get_or, slice_get, Some, Contains, if◌then◌else◌}
 use Rattle.std.specs.List.{flat_map}
 use Rattle.pdb_disk.specs.Files.{FileBytes, FileState, Files, Image, IsFileImage, IsImage, Step}
 use Rattle.pdb_disk.specs.Files.{Step as step}
-use Rattle.pdb_model.specs.Gates.{gate_at, gate_place}
-use Rattle.pdb_model.specs.Logs.{IsGate, IsLogFile, IsScanned, StandsWhole, AreInARow, gate_file}
+use Rattle.pdb_model.specs.Logs.{IsGate, IsLogFile, IsScanned, StandsWhole, AreInARow}
 use Rattle.pdb_model.specs.Records.{IsRecord, Record, record_bytes}
 use Rattle.pdb_model.specs.Recovery.{Row, StoodThere, cells_of_files, commits_after, laid_over}
 use Rattle.pdb_model.specs.declared.gate_slot.GateSlot.{GateSlot}
@@ -109,6 +108,18 @@ emptied l file n = record l { segments = with_segment l.segments file (record { 
 pub record IsPassed (g : Segment) (n : ℕ) : Type 0 where
   pub synced : g.pending ≡ []
   pub each : (r : Record) → Contains (records_of g) r → r.number ≤ n
+
+-- a file has records, and their numbers are at most this
+abbrev pub has_passed : Segment → ℕ → Bool
+has_passed g n = nat_lt 0 (length (records_of g)) && nat_le (g.first + length (records_of g)) (n + 1)
+
+-- a log file was emptied where it has records and the gate has passed them all
+abbrev pub cleared : Ledger → ℕ → ℕ → Ledger
+cleared l file n = if has_passed (l.segments file) l.gate.number then emptied l file n else l
+
+-- each such log file was
+abbrev pub files_cleared : Ledger → ℕ → Ledger
+files_cleared l n = cleared (cleared (cleared (cleared l 1 n) 2 n) 3 n) 4 n
 
 -- ---- rows
 

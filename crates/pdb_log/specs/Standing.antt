@@ -5,6 +5,7 @@ use Rattle.pdb_disk.specs.Files.{Files}
 use Rattle.pdb_model.specs.Logs.{IsLogFile, gate_file, most_in_log}
 use Rattle.pdb_model.specs.Records.{Record}
 use Rattle.pdb_model.specs.Recovery.{Row}
+use Rattle.pdb_model.specs.declared.gate_slot.GateSlot.{GateSlot}
 use Rattle.pdb_log.specs.Ledger.{AreRows, IsKeptGate, IsSegment, Ledger, StandsInFiles, emptied, file_of, records_of, spelled_records}
 use Rattle.pdb_log.specs.declared.log.Log.{Log}
 
@@ -36,6 +37,10 @@ next_record log commits puts = record { number = log.number + 1; commits = commi
 
 abbrev pub end_of_log : {D : Type 0} → Log D → ℕ
 end_of_log log = slice_index log.ends log.file.number
+
+-- the gate that comes next
+abbrev pub next_gate : {D : Type 0} → Log D → ℕ → ℕ → GateSlot
+next_gate log number commits = record { sequence = log.gate.sequence + 1; number = number; commits = commits }
 
 -- the log file after this one
 abbrev pub next_in_ring : ℕ → ℕ

@@ -13,7 +13,7 @@ use crate::ring_file::RingFile;
 use pdb_cells::{Put, Puts};
 use pdb_disk::{Disk, DiskFault};
 use pdb_model::GateSlot;
-use pdb_record::encode;
+use pdb_record::{encode, gate_bytes};
 use sdb_base::Counter;
 use std::alloc::Global;
 
@@ -22,6 +22,9 @@ const MOST: u64 = 1 << 62;
 
 // a file with so many bytes is followed by the next of the ring
 const FULL: u64 = 262_144;
+
+// the second gate slot begins after so many bytes
+const BETWEEN_SLOTS: u64 = 4096;
 
 // a header and two checksums take so many bytes, a put's file and index so many
 const AROUND_BODY: u64 = 56;
@@ -72,8 +75,8 @@ fn record_len(puts: &[Put]) -> u64
 impl<D: Disk> Log<D> {
     ghost use Rattle.pdb_model.specs.Recovery.{Row, Safe};
     ghost use Rattle.pdb_log.specs.Answers.{log_disk_fails};
-    ghost use Rattle.pdb_log.specs.Ledger.{AreRows, IsEmptyFile, IsKeptGate, Ledger, all_flushed, appended, file_synced, files_synced, fresh_ledger, row_after};
-    ghost use Rattle.pdb_log.specs.Standing.{IsCellAt, IsLog, end_of_log, next_in_ring, next_record, turned, turns};
+    ghost use Rattle.pdb_log.specs.Ledger.{AreRows, IsEmptyFile, IsKeptGate, IsNextGate, IsPassed, Ledger, all_flushed, appended, cleared, emptied, file_synced, files_cleared, files_synced, fresh_ledger, passed, row_after};
+    ghost use Rattle.pdb_log.specs.Standing.{IsCellAt, IsLog, end_of_log, next_gate, next_in_ring, next_record, turned, turns};
 
     /// The log after a gate that is in force, where all log files are empty.
     pub fn begin(disk: D, gate: GateSlot) -> Log<D>
@@ -222,6 +225,106 @@ impl<D: Disk> Log<D> {
         self.sync_records(2)?;
         self.sync_records(3)?;
         self.sync_records(4)?;
+        Ok(())
+    }
+
+    /// Writes the gate slot that isn't in force and syncs it.
+    fn write_gate(&mut self, g: GateSlot) -> Result<(), DiskFault>
+        ensures gate_passed { (l : Ledger) → (rows : List Row) → (f : ℕ) → (dropped flushed : List Record)
+            → IsLog D.tells D.clock D.past self.old l rows f
+            → IsNextGate rows f (D.past self.old.disk (D.clock self.old.disk)) l g dropped flushed
+            → OnOk result (IsLog D.tells D.clock D.past self.new (passed l g flushed) rows f) }
+        ensures any_moment { (l : Ledger) → (rows : List Row) → (f : ℕ) → (dropped flushed : List Record)
+            → IsLog D.tells D.clock D.past self.old l rows f
+            → IsNextGate rows f (D.past self.old.disk (D.clock self.old.disk)) l g dropped flushed
+            → Moments (D.clock self.old.disk) (D.clock self.new.disk) (D.past self.old.disk) (D.past self.new.disk) (Safe rows f) }
+        ensures number { self.new.number ≡ self.old.number }
+        ensures counted { CountsFault (is_err result) (D.fault_count self.old.disk) (D.fault_count self.new.disk) }
+    {
+        let bytes = gate_bytes(&g);
+        match self
+            .disk
+            .write_at(0, BETWEEN_SLOTS * (g.sequence % 2), &bytes)
+        {
+            Ok(()) => match self.disk.sync(0) {
+                Ok(()) => {
+                    self.gate = g;
+                    Ok(())
+                }
+                Err(fault) => Err(fault),
+            },
+            Err(fault) => Err(fault),
+        }
+    }
+
+    /// Cuts a log file whose records the gate has passed, and syncs it.
+    fn clear_file(&mut self, file: u16) -> Result<(), DiskFault>
+        requires { IsLogFile file }
+        ensures file_emptied { (l : Ledger) → (rows : List Row) → (f : ℕ) → IsLog D.tells D.clock D.past self.old l rows f
+            → IsPassed (l.segments file) l.gate.number
+            → OnOk result (IsLog D.tells D.clock D.past self.new (emptied l file (self.old.number + 1)) rows f) }
+        ensures any_moment { (l : Ledger) → (rows : List Row) → (f : ℕ) → IsLog D.tells D.clock D.past self.old l rows f
+            → IsPassed (l.segments file) l.gate.number
+            → Moments (D.clock self.old.disk) (D.clock self.new.disk) (D.past self.old.disk) (D.past self.new.disk) (Safe rows f) }
+        ensures number { self.new.number ≡ self.old.number }
+        ensures counted { CountsFault (is_err result) (D.fault_count self.old.disk) (D.fault_count self.new.disk) }
+    {
+        match self.disk.cut(file) {
+            Ok(()) => match self.disk.sync(file) {
+                Ok(()) => {
+                    self.ends[file as usize] = 0;
+                    self.synced[file as usize] = 0;
+                    self.last[file as usize] = self.number;
+                    Ok(())
+                }
+                Err(fault) => Err(fault),
+            },
+            Err(fault) => Err(fault),
+        }
+    }
+
+    /// Cuts a log file and syncs it where it has records and the gate has passed them all.
+    fn clear_passed(&mut self, file: u16) -> Result<(), DiskFault>
+        requires { IsLogFile file }
+        ensures file_cleared { (l : Ledger) → (rows : List Row) → (f : ℕ) → IsLog D.tells D.clock D.past self.old l rows f
+            → OnOk result (IsLog D.tells D.clock D.past self.new (cleared l file (self.old.number + 1)) rows f) }
+        ensures any_moment { (l : Ledger) → (rows : List Row) → (f : ℕ) → IsLog D.tells D.clock D.past self.old l rows f
+            → Moments (D.clock self.old.disk) (D.clock self.new.disk) (D.past self.old.disk) (D.past self.new.disk) (Safe rows f) }
+        ensures number { self.new.number ≡ self.old.number }
+        ensures counted { CountsFault (is_err result) (D.fault_count self.old.disk) (D.fault_count self.new.disk) }
+    {
+        if self.ends[file as usize] > 0 && self.last[file as usize] <= self.gate.number {
+            return self.clear_file(file);
+        }
+        Ok(())
+    }
+
+    /// Moves the gate behind the records up to this number, whose cells are in their files and synced, and empties each
+    /// log file whose records it has all passed. `commits` is the number of commits in those records. The gate's sequence
+    /// is below 2^64 - 1.
+    pub fn clean(&mut self, number: u64, commits: u64) -> Result<(), DiskFault>
+        requires { self.old.gate.sequence < 2 ^ 64 - 1 }
+        ensures cleaned { (l : Ledger) → (rows : List Row) → (f : ℕ) → (dropped flushed : List Record)
+            → IsLog D.tells D.clock D.past self.old l rows f
+            → IsNextGate rows f (D.past self.old.disk (D.clock self.old.disk)) l (next_gate self.old number commits) dropped flushed
+            → OnOk result (IsLog D.tells D.clock D.past self.new
+            (files_cleared (passed l (next_gate self.old number commits) flushed) (self.old.number + 1)) rows f) }
+        ensures any_moment { (l : Ledger) → (rows : List Row) → (f : ℕ) → (dropped flushed : List Record)
+            → IsLog D.tells D.clock D.past self.old l rows f
+            → IsNextGate rows f (D.past self.old.disk (D.clock self.old.disk)) l (next_gate self.old number commits) dropped flushed
+            → Moments (D.clock self.old.disk) (D.clock self.new.disk) (D.past self.old.disk) (D.past self.new.disk) (Safe rows f) }
+        ensures counted { CountsFault (is_err result) (D.fault_count self.old.disk) (D.fault_count self.new.disk) }
+    {
+        let gate = GateSlot {
+            sequence: self.gate.sequence + 1,
+            number,
+            commits,
+        };
+        self.write_gate(gate)?;
+        self.clear_passed(1)?;
+        self.clear_passed(2)?;
+        self.clear_passed(3)?;
+        self.clear_passed(4)?;
         Ok(())
     }
 

@@ -1,10 +1,10 @@
-use Rattle.std.proofs.Common.{rules, ◌≡◌, ◌≢◌, ◌≤◌, ◌<◌, ◌+◌, ◌^◌, ◌++◌, ℕ, List, [], ◌∷◌, length, inl, refl, sym, ap, ◌∙◌, subst, arith}
+use Rattle.std.proofs.Common.{rules, ◌≡◌, ◌<◌, ◌+◌, ◌^◌, List, [], ◌∷◌, length, inl, refl, sym, ap, ◌∙◌, subst, arith}
 use Rattle.std.specs.Prelude.{set}
 use Rattle.pdb_cells.specs.declared.Put.{Put}
 use Rattle.pdb_disk.proofs.Calls.{no_call}
 use Rattle.pdb_model.specs.Logs.{most_in_log}
 use Rattle.pdb_model.specs.Records.{Record, body_bytes, record_bytes}
-use Rattle.pdb_model.specs.Recovery.{Row, Safe}
+use Rattle.pdb_model.specs.Recovery.{Safe}
 use Rattle.pdb_log.specs.Ledger.{row_after}
 use Rattle.pdb_log.specs.Standing.{end_of_log, next_record}
 use Rattle.pdb_log.proofs.Logs.{SetTo, begun_as, done_as, good_record, may_as, safe_now, set_to, write_log, write_moments}

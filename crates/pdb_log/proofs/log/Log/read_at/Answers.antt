@@ -1,5 +1,4 @@
-use Rattle.std.proofs.Common.{◌≡◌, ℕ, refl, ap, ◌∙◌}
-use Rattle.pdb_disk.specs.Files.{Files}
+use Rattle.std.proofs.Common.{refl}
 use Rattle.pdb_log.proofs.Passes.{read_log}
 use Rattle.pdb_log.proofs.log.Log.read_at.Goals as goal
 

@@ -1,6 +1,6 @@
 use Rattle.std.proofs.Common.{rules, ◌≡◌, ◌≤◌, length, refl, arith}
 use Rattle.std.specs.Prelude.{slice_index}
-use Rattle.pdb_log.specs.Standing.{end_of_log, next_in_ring}
+use Rattle.pdb_log.specs.Standing.{end_of_log}
 use Rattle.pdb_log.proofs.Logs.{set_to}
 use Rattle.pdb_log.proofs.Turns.{turned_next}
 use Rattle.pdb_log.proofs.log.Log.rotate.Goals as goal

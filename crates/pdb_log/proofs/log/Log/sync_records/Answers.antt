@@ -1,4 +1,4 @@
-use Rattle.std.proofs.Common.{rules, ◌≡◌, ◌≤◌, subst}
+use Rattle.std.proofs.Common.{rules, ◌≤◌, subst}
 use Rattle.std.specs.Prelude.{slice_index}
 use Rattle.pdb_model.specs.Recovery.{Safe}
 use Rattle.pdb_disk.proofs.Calls.{no_call}
