@@ -6,3 +6,4 @@ pub mod Splits
 pub mod Grammar
 pub mod Once
 pub mod Loops
+pub mod Unique

@@ -1,0 +1,16 @@
+pub mod Bytes
+pub mod Members
+pub mod Scans
+pub mod Segments
+pub mod Taken
+pub mod Images
+pub mod Rows
+pub mod Ledgers
+pub mod Logs
+pub mod Syncs
+pub mod Turns
+pub mod Cells
+pub mod Passes
+pub mod Gates
+pub mod Cleans
+pub mod Clears
