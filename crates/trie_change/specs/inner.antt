@@ -1,0 +1,3 @@
+-- Definitions for the clauses of private functions and for their proofs. No other crate cites them.
+pub mod Settled
+pub mod Stages
