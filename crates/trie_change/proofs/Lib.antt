@@ -6,3 +6,5 @@ pub mod Put
 pub mod Deeper
 pub mod Idle
 pub mod Superseded
+pub mod LowerNodes
+pub mod Compared

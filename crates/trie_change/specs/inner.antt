@@ -1,3 +1,4 @@
 -- Definitions for the clauses of private functions and for their proofs. No other crate cites them.
+pub mod Diffs
 pub mod Settled
 pub mod Stages

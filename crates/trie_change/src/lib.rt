@@ -12,6 +12,7 @@
 
 mod change_job;
 mod delta;
+mod diff;
 mod frontier;
 mod laws;
 mod settings;
