@@ -8,3 +8,6 @@ pub mod Idle
 pub mod Superseded
 pub mod LowerNodes
 pub mod Compared
+pub mod FedNodes
+pub mod PassedNodes
+pub mod SortedNodes

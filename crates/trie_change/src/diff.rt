@@ -1,4 +1,5 @@
-ghost use Rattle.std.specs.Prelude.{◌≡◌, ◌≢◌, ℕ, ◌-◌, ◌<◌, ◌≤◌, List, [], ◌∷◌, ◌++◌, All, IfOk, IfSome, IsPermutation, IsTrue, MatchOption, OnOk, length, map, reverse, None, ◌↔◌};
+ghost use Rattle.std.specs.Prelude.{◌≡◌, ◌≢◌, ℕ, ◌-◌, ◌<◌, ◌≤◌, List, [], ◌∷◌, ◌++◌, All, IfOk, IfSome, IsPermutation, IsTrue, OnOk, length, map, reverse, true, false, None};
+ghost use Rattle.std.specs.Str.{bytes_eq};
 ghost use Rattle.std.specs.Option.{option_to_list};
 ghost use Rattle.std.specs.Ordering.{is_lt, nat_cmp};
 ghost use Rattle.std.specs.Cmp.Lexicographic.{slice_cmp};
@@ -13,6 +14,7 @@ use crate::frontier::Fed;
 use sdb_base::{Bytes, Node, NodeHash, OutOfMemory};
 use sdb_blake2::hash256;
 use std::alloc::Global;
+use std::cmp::Ordering;
 
 /// What is put and dropped as the stored nodes of a changed trie come, from the highest path down.
 #[derive(Debug, Drop)]
@@ -24,6 +26,13 @@ pub(crate) struct Diff {
     drops: Vec<NodeHash>,
 }
 
+// The order of the paths.
+fn by_path(a: &Fed, b: &Fed) -> Ordering
+    ensures { result ≡ slice_cmp nat_cmp a.now.path.items b.now.path.items }
+{
+    a.path.as_slice().cmp(b.path.as_slice())
+}
+
 impl Diff {
     /// Nothing is put yet or dropped.
     pub(crate) fn new(alloc: Global, fed: Vec<Fed>) -> Result<Diff, OutOfMemory>
@@ -32,7 +41,7 @@ impl Diff {
             → All HasItsHash fed.items → IfOk result (λ d. IsComparison d (all_left old)) }
     {
         let mut fed = fed;
-        fed.sort_by(|a, b| a.path.as_slice().cmp(b.path.as_slice()))?;
+        fed.sort_by(by_path)?;
         Ok(Diff {
             fed,
             puts: Vec::new(alloc),
@@ -80,17 +89,29 @@ impl Diff {
     // Takes the last fed node, if it is at the path.
     fn pop_at(&mut self, path: &[u8]) -> Option<Fed>
         ensures fed { self.old.fed.items ≡ self.new.fed.items ++ option_to_list result }
-        ensures found { IfSome result (λ f. f.path.items ≡ path.now) }
+        ensures found { IfSome result (λ f. bytes_eq f.path.items path.now ≡ true) }
         ensures none { (before : List Fed) (last : Fed) → result ≡ None → self.old.fed.items ≡ before ++ last ∷ []
-            → last.path.items ≢ path.now }
+            → bytes_eq last.path.items path.now ≡ false }
         ensures puts { self.new.puts ≡ self.old.puts }
         ensures drops { self.new.drops ≡ self.old.drops }
     {
-        let found = match self.fed.as_slice().last() {
+        if self.last_is_at(path) {
+            self.fed.pop()
+        } else {
+            None
+        }
+    }
+
+    // Whether the last fed node is at the path.
+    fn last_is_at(&self, path: &[u8]) -> bool
+        ensures some { IsTrue result → length self.now.fed.items ≢ 0 }
+        ensures at { (before : List Fed) (last : Fed) → self.now.fed.items ≡ before ++ last ∷ []
+            → result ≡ bytes_eq last.path.items path.now }
+    {
+        match self.fed.as_slice().last() {
             None => false,
             Some(last) => last.path.as_slice() == path,
-        };
-        if found { self.fed.pop() } else { None }
+        }
     }
 
     // Whether the last fed node is above the path.

@@ -33,8 +33,8 @@ abbrev pub met : PathNode → List PathNode → List PathNode → List PathNode 
 met n [] puts drops = record { left = []; puts = n ∷ puts; drops = drops }
 met n (o ∷ os) puts drops =
     if bytes_eq o.path n.path then
-      (if bytes_eq o.bytes n.bytes then record { left = os; puts = puts; drops = drops }
-      else record { left = os; puts = n ∷ puts; drops = o ∷ drops })
+    (if bytes_eq o.bytes n.bytes then record { left = os; puts = puts; drops = drops }
+    else record { left = os; puts = n ∷ puts; drops = o ∷ drops })
     else record { left = o ∷ os; puts = n ∷ puts; drops = drops }
 
 -- once one more node has come, of a path below those before
