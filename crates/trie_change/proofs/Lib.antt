@@ -11,3 +11,5 @@ pub mod Compared
 pub mod FedNodes
 pub mod PassedNodes
 pub mod SortedNodes
+pub mod MadeValues
+pub mod SpellingLength

@@ -10,6 +10,7 @@
 //! with `keys_in_changes` for the keys that changes name. How the new nodes are made is left to the layer above.
 #![tactic(auto)]
 
+mod build;
 mod change_job;
 mod delta;
 mod diff;
