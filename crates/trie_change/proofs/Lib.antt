@@ -13,3 +13,8 @@ pub mod PassedNodes
 pub mod SortedNodes
 pub mod MadeValues
 pub mod SpellingLength
+pub mod ItemPaths
+pub mod ChildRuns
+pub mod ItemSuffixes
+pub mod LoneStubs
+pub mod Parting
