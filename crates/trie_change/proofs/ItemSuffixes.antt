@@ -21,7 +21,7 @@ pub prefixes_joined : (p q : List ℕ) (ss : List Suffix) → with_prefix (p ++ 
 prefixes_joined p q [] = refl
 prefixes_joined p q (s ∷ ss) = ap₂ (λ (ns : List ℕ) (ts : List Suffix). (ns, s.1) ∷ ts) (append_assoc p q s.0) (prefixes_joined p q ss)
 
-after_itself : (p ks : List ℕ) → after_prefix p (p ++ ks) ≡ Some ks
+pub after_itself : (p ks : List ℕ) → after_prefix p (p ++ ks) ≡ Some ks
 after_itself [] ks = refl
 after_itself (x ∷ p) ks = let same : eqb x x ≡ true = eq-eqb x x refl in rw same (after_itself p ks)
 

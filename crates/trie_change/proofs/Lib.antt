@@ -14,7 +14,9 @@ pub mod SortedNodes
 pub mod MadeValues
 pub mod SpellingLength
 pub mod ItemPaths
-pub mod ChildRuns
 pub mod ItemSuffixes
 pub mod LoneStubs
 pub mod Parting
+pub mod GroupNodes
+pub mod ChildGroups
+pub mod ChildRuns

@@ -93,7 +93,8 @@ record LastOf (ss : List Suffix) (i : Item) : Type 0 where
   others : List Suffix
   is : suffixes_for ss i ≡ others ++ (item_path i ++ rest, value) ∷ []
 
-some_below : (ss : List Suffix) (q : List ℕ) (i : Item) → IsItem ss i → IsPast q i → is_key i ≡ false → below (item_path i) ss ≡ [] → ⊥
+-- where a stub goes on with a path, some suffixes do
+pub some_below : (ss : List Suffix) (q : List ℕ) (i : Item) → IsItem ss i → IsPast q i → is_key i ≡ false → below (item_path i) ss ≡ [] → ⊥
 some_below ss q (item.Entry e) h p k none = let no : true ≡ false = k in cc
 some_below ss q (item.Stub s) h p k none = elim h.some [
   | inl root ↦ longer q p.0 p.1 (sym p.2 ∙ root)
