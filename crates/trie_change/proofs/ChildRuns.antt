@@ -14,7 +14,7 @@ use Rattle.trie_change.specs.Frontier.{IsLimited}
 use Rattle.trie_change.specs.declared.diff.Diff.{Diff}
 use Rattle.trie_change.specs.declared.frontier.Item.{Item}
 use Rattle.trie_change.specs.declared.frontier.Item.TheVariants as item
-use Rattle.trie_change.specs.inner.Built.{GoesOnFrom, ItemBefore, ItemBranch, ItemGroup, ItemsRise, is_made, item_path, nodes_at, rank_after, rank_of}
+use Rattle.trie_change.specs.inner.Built.{GoesOnFrom, ItemBefore, ItemBranch, ItemGroup, ItemsRise, is_made, item_path, nodes_at, nodes_below, rank_after, rank_of, values_below}
 use Rattle.trie_change.specs.inner.Diffs.{Comparison, IsComparison, after_node, after_nodes}
 use Rattle.trie_change.proofs.ChildGroups.{Run, group_of_run}
 use Rattle.trie_change.proofs.FedNodes.{ended}
@@ -96,7 +96,7 @@ after_joined : (c : Comparison) (xs ys : List PathNode) → after_nodes c (xs ++
 after_joined c [] ys = refl
 after_joined c (x ∷ xs) ys = ap (λ (k : Comparison). after_node k x) (after_joined c xs ys)
 
-in_the_middle : (is : List Item) (l x : Item) (others : List Item) → get_or ((is ++ l ∷ []) ++ others) (length is) x ≡ l
+pub in_the_middle : (is : List Item) (l x : Item) (others : List Item) → get_or ((is ++ l ∷ []) ++ others) (length is) x ≡ l
 in_the_middle [] l x others = refl
 in_the_middle (i ∷ is) l x others = in_the_middle is l x others
 
@@ -196,3 +196,13 @@ module _ {at : ℕ} {items : List Item} (b : ItemBranch at items) (c : Compariso
             subst (IsComparison e) (sym (ap (λ (ns : List PathNode). after_nodes c ns) nodes
             ∙ after_joined c (made (nodes_at_nibble b j)) (made (flat_map (nodes_at_nibble b) (from (16 - count) count))))) come;
       }
+
+-- ---- all of them
+
+pub all_come : {at : ℕ} {items : List Item} (b : ItemBranch at items) (c : Comparison) (count : ℕ) (rest : List Item) (children : List (Option (List ℕ))) (d : Diff) → count ≡ 16
+    → Coming b c count rest children d
+    → (reverse children ≡ values_below b.group.suffixes b.group.path) × IsComparison d (after_nodes c (filter (is_made b.group.under) (nodes_below b.group.suffixes b.group.path)))
+all_come b c count rest children d all k = (
+  k.values ∙ ap (λ (n : ℕ). map (child_at_nibble b) (from (16 - n) n)) all,
+  subst (λ (n : ℕ). IsComparison d (after_nodes c (filter (is_made b.group.under) (flat_map (nodes_at_nibble b) (from (16 - n) n))))) all k.come,
+)

@@ -20,3 +20,4 @@ pub mod Parting
 pub mod GroupNodes
 pub mod ChildGroups
 pub mod ChildRuns
+pub mod MadeGroups
