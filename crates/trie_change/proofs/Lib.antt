@@ -21,3 +21,6 @@ pub mod GroupNodes
 pub mod ChildGroups
 pub mod ChildRuns
 pub mod MadeGroups
+pub mod FrontierRises
+pub mod EmptyItems
+pub mod SettledItems

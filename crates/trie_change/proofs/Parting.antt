@@ -80,12 +80,12 @@ past_of q (item.Stub s) g some = by_rest (drop (length q) s.path.items) g (some 
     by_rest (n ∷ ns) e some = (n, ns, e)
 
 -- the first suffix of an item, and its last
-record FirstOf (ss : List Suffix) (i : Item) : Type 0 where
-  rest : List ℕ
-  value : List ℕ
-  others : List Suffix
-  is : suffixes_for ss i ≡ (item_path i ++ rest, value) ∷ others
-  ends : is_key i ≡ true → rest ≡ []
+pub record FirstOf (ss : List Suffix) (i : Item) : Type 0 where
+  pub rest : List ℕ
+  pub value : List ℕ
+  pub others : List Suffix
+  pub is : suffixes_for ss i ≡ (item_path i ++ rest, value) ∷ others
+  pub ends : is_key i ≡ true → rest ≡ []
 
 record LastOf (ss : List Suffix) (i : Item) : Type 0 where
   rest : List ℕ
@@ -105,7 +105,7 @@ some_below ss q (item.Stub s) h p k none = elim h.some [
     longer [] n ns e = cc
     longer (x ∷ q) n ns e = cc
 
-first_of : (ss : List Suffix) (q : List ℕ) (i : Item) → IsItem ss i → IsPast q i → FirstOf ss i
+pub first_of : (ss : List Suffix) (q : List ℕ) (i : Item) → IsItem ss i → IsPast q i → FirstOf ss i
 first_of ss q (item.Entry e) h p = record { rest = []; value = e.value; others = []; is = ap (λ (t : List ℕ). (t, e.value) ∷ []) (sym (append-nil e.path.items)); ends = λ k. refl }
 first_of ss q (item.Stub s) h p = by_list (below s.path.items ss) refl
   where

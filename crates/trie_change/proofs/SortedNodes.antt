@@ -12,6 +12,7 @@ use Rattle.std.proofs.lemmas.List.Sums.{length-filter}
 use Rattle.std.proofs.lemmas.Slice.Eq.{bytes_eq-Decides}
 use Rattle.trie_model.specs.Nodes.{PathNode}
 use Rattle.trie_root.proofs.Ends.{below_all, first_of_and, second_of_and}
+use Rattle.trie_root.proofs.Stripped.{and, true_from_T}
 use Rattle.trie_read.specs.Paths.{RiseByPath}
 use Rattle.trie_read.proofs.Among.{Among, among_kept}
 use Rattle.trie_read.proofs.Rising.{LowerThan, Rises}
@@ -40,6 +41,17 @@ rises_by (n ∷ ns) s = (
 pub rises_from : (ns : List PathNode) → RiseByPath ns → Rises ns
 rises_from ns s = rises_by ns (T_from_true _ s)
 
+below_entries : (p : List ℕ) (ns : List PathNode) → LowerThan p ns → T (below_all p (map as_entry ns))
+below_entries p [] a = tt
+below_entries p (n ∷ ns) a = and _ _ a.0 (below_entries p ns a.1)
+
+sorted_entries : (ns : List PathNode) → Rises ns → T (is_sorted (slice_cmp nat_cmp) (map as_entry ns))
+sorted_entries [] a = tt
+sorted_entries (n ∷ ns) a = and _ _ (below_entries n.path ns a.0) (sorted_entries ns a.1)
+
+pub rise_by_path : (ns : List PathNode) → Rises ns → RiseByPath ns
+rise_by_path ns r = true_from_T _ (sorted_entries ns r)
+
 -- ---- each as often in the one as in the other
 
 abbrev is_lower : PathNode → PathNode → Bool
@@ -56,7 +68,7 @@ AsOften xs ys = (test : PathNode → Bool) → length (filter test xs) ≡ lengt
 is_itself : (n : PathNode) → is_node n n ≡ true
 is_itself n = let path = (bytes_eq-Decides n.path n.path).1 refl in let bytes = (bytes_eq-Decides n.bytes n.bytes).1 refl in rw (path, bytes)
 
-one_node : (n o : PathNode) → is_node n o ≡ true → o ≡ n
+pub one_node : (n o : PathNode) → is_node n o ≡ true → o ≡ n
 one_node n o e = by_path (bytes_eq o.path n.path) refl e
   where
     by_path : (b : Bool) → bytes_eq o.path n.path ≡ b → (b && bytes_eq o.bytes n.bytes) ≡ true → o ≡ n

@@ -1,12 +1,11 @@
 ghost use Rattle.std.specs.Prelude.{◌≡◌, ◌≢◌, ℕ, suc, ◌+◌, ◌-◌, ◌<◌, ◌≤◌, List, [], ◌∷◌, All, IfOk, IfSome, OnOk, drop, filter, length, slice_index_or, take, true, false};
 ghost use Rattle.sdb_blake2.specs.Blake2b.{H};
 ghost use Rattle.trie_model.specs.Node.{merkle_value, spelling};
-ghost use Rattle.trie_model.specs.Nodes.{PathNode, stored_nodes};
-ghost use Rattle.trie_model.specs.State.{State};
-ghost use Rattle.trie_model.specs.Trie.{below, child_value, common, node_of_all, trie_root};
+ghost use Rattle.trie_model.specs.Nodes.{PathNode};
+ghost use Rattle.trie_model.specs.Trie.{below, child_value, common, node_of_all};
 ghost use Rattle.trie_codec.specs.Parts.{node_with};
 ghost use Rattle.trie_codec.specs.Slices.{bytes_in};
-ghost use Rattle.trie_change.specs.Frontier.{IsLimited, is_under};
+ghost use Rattle.trie_change.specs.Frontier.{IsLimited};
 ghost use Rattle.trie_change.specs.inner.Built.{FitsNode, IsMade, IsShortValue, ItemBranch, ItemGroup, hash_here, is_made, item_path, made_of_group, node_of_group, nodes_at, nodes_below, rank_after, value_after, values_below};
 ghost use Rattle.trie_change.specs.inner.Diffs.{AreShort, Comparison, IsComparison, after_nodes, most_in_node};
 
@@ -25,6 +24,54 @@ const HASH_LEN: usize = 32;
 enum Made {
     Kept(NodeHash),
     New(Bytes),
+}
+
+/// The root over all items. The stored nodes that are made, from the highest path down to the root, go to the comparison.
+pub(crate) fn root_of(
+    alloc: Global,
+    diff: &mut Diff,
+    items: &[Item],
+) -> Result<NodeHash, OutOfMemory>
+    requires limited { All IsLimited items.now }
+    requires short { AreShort diff.old.puts.items }
+    ensures still_short { OnOk result (AreShort diff.new.puts.items) }
+    ensures root { (g : ItemGroup 0 items.now) (c : Comparison) → IsComparison diff.old c
+        → IfOk result (λ root. (root.0 ≡ H (node_of_group g).bytes)
+        × IsComparison diff.new (after_nodes c (made_of_group g))) }
+{
+    match root_made(alloc, diff, items)? {
+        Made::Kept(hash) => Ok(hash),
+        Made::New(bytes) => diff.emit(&[], bytes),
+    }
+}
+
+// The root node, that of the empty trie where there are no items.
+fn root_made(alloc: Global, diff: &mut Diff, items: &[Item]) -> Result<Made, OutOfMemory>
+    requires limited { All IsLimited items.now }
+    requires short { AreShort diff.old.puts.items }
+    ensures still_short { OnOk result (AreShort diff.new.puts.items) }
+    ensures fits { IfOk result FitsNode }
+    ensures made { (g : ItemGroup 0 items.now) (c : Comparison) → IsComparison diff.old c
+        → IfOk result (IsMade c (node_of_group g) (made_of_group g) diff.new) }
+{
+    if items.is_empty() {
+        return Ok(Made::New(spell_empty(alloc)?));
+    }
+    made_of(alloc, diff, items, 0)
+}
+
+// The spelling of the node of the empty trie.
+#[tactic(auto, unfolding(trie_model::specs::Trie::node_over, trie_model::specs::Node::spelling))]
+fn spell_empty(alloc: Global) -> Result<Bytes, OutOfMemory>
+    ensures spelled { IfOk result (λ bytes. bytes ≡ spelling (node_of_all [])) }
+    ensures fits { IfOk result (λ bytes. length bytes ≤ most_in_node) }
+{
+    let node = Plain {
+        partial: Nibbles::new(alloc),
+        value: None,
+        children: ChildList::new(),
+    };
+    encode(alloc, &node)
 }
 
 // The node over items that agree in their first `at` nibbles, of which there is one at least. The stored ones below it, from
