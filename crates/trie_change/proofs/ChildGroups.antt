@@ -1,5 +1,5 @@
 -- Items that go on with one nibble, between others, are a group of their own.
-use Rattle.std.proofs.Common.{◌≡◌, ℕ, suc, ◌+◌, ◌<◌, ◌≤◌, Bool, true, false, cond, eqb, List, [], ◌∷◌, ◌++◌, length, drop, Option, Some, None, refl, ap, ap₂, subst, sym, ◌∙◌, append_assoc, length-append, arith}
+use Rattle.std.proofs.Common.{◌≡◌, ℕ, suc, ◌+◌, Bool, true, false, cond, eqb, List, [], ◌∷◌, ◌++◌, length, drop, None, refl, ap, ap₂, subst, sym, ◌∙◌, append_assoc, length-append}
 use Rattle.std.specs.Prelude.{◌||◌, is_some, option_and_then}
 use Rattle.std.specs.List.{AllByRecursion, flat_map, list_any}
 use Rattle.std.proofs.lemmas.List.Folds.{list_any-append}
@@ -12,13 +12,13 @@ use Rattle.trie_read.proofs.Ways.{follows}
 use Rattle.trie_change.specs.Frontier.{IsHanging, IsItem, is_at_stub, is_under, suffixes_for}
 use Rattle.trie_change.specs.declared.frontier.Item.{Item}
 use Rattle.trie_change.specs.declared.frontier.Item.TheVariants as item
-use Rattle.trie_change.specs.inner.Built.{GoesOnFrom, IsPast, ItemBranch, ItemGroup, ItemsRise, item_path, rank_after, rank_of}
+use Rattle.trie_change.specs.inner.Built.{GoesOnFrom, IsPastPath, ItemBranch, ItemGroup, ItemsRise, item_path, rank_after, rank_of}
 use Rattle.trie_change.proofs.ItemPaths.{drop_itself, goes_from, rise_joined}
 use Rattle.trie_change.proofs.ItemSuffixes.{AllGoOn, AllOff, AllOn, after_itself, path_on, run_whole}
 
 -- ---- what is under the stubs of the others
 
-off_stub : (q : List ℕ) (j : ℕ) (rest : List ℕ) (i : Item) → IsPast q i → (rank_after (length q) i ≡ suc j → ⊥) → is_at_stub (q ++ j ∷ rest) i ≡ false
+off_stub : (q : List ℕ) (j : ℕ) (rest : List ℕ) (i : Item) → IsPastPath q i → (rank_after (length q) i ≡ suc j → ⊥) → is_at_stub (q ++ j ∷ rest) i ≡ false
 off_stub q j rest (item.Entry e) past off = refl
 off_stub q j rest (item.Stub s) past off =
     let k : ℕ = past.0 in
@@ -30,7 +30,7 @@ off_stub q j rest (item.Stub s) past off =
     ∙ ap is_some (after_prefix-append q (k ∷ ns) (q ++ j ∷ rest) ∙ ap (option_and_then (after_prefix (k ∷ ns))) (after_itself q (j ∷ rest)))
     ∙ ap (λ b. is_some (cond b (after_prefix ns rest) None)) differ
 
-off_stubs : (q : List ℕ) (j : ℕ) (rest : List ℕ) (is : List Item) → AllByRecursion (IsPast q) is → AllOff q j is → list_any (is_at_stub (q ++ j ∷ rest)) is ≡ false
+off_stubs : (q : List ℕ) (j : ℕ) (rest : List ℕ) (is : List Item) → AllByRecursion (IsPastPath q) is → AllOff q j is → list_any (is_at_stub (q ++ j ∷ rest)) is ≡ false
 off_stubs q j rest [] p a = refl
 off_stubs q j rest (i ∷ is) p a =
     let one : is_at_stub (q ++ j ∷ rest) i ≡ false = off_stub q j rest i p.0 a.0 in
@@ -71,9 +71,9 @@ pub run_under : {at : ℕ} {items : List Item} (b : ItemBranch at items) (j : �
 run_under {items = items} b j run r n rest e =
     let q : List ℕ = b.group.path in
     let path : n.path ≡ q ++ j ∷ rest = e ∙ append_assoc q (j ∷ []) rest in
-    let past = three (IsPast q) items r.front run r.back r.parts b.past in
+    let past = three (IsPastPath q) items r.front run r.back r.parts b.past in
     let test : List ℕ → List Item → Bool = λ p is. list_any (is_at_stub p) is in
-    let none : (is : List Item) → AllByRecursion (IsPast q) is → AllOff q j is → test n.path is ≡ false = λ is p a.
+    let none : (is : List Item) → AllByRecursion (IsPastPath q) is → AllOff q j is → test n.path is ≡ false = λ is p a.
     ap (λ (k : List ℕ). test k is) path ∙ off_stubs q j rest is p a in
     b.group.same n (j ∷ rest) path
     ∙ ap (test n.path) r.parts
@@ -89,7 +89,7 @@ group_of_run {items = items} b j run end place r =
     let g = b.group in
     let q : List ℕ = g.path in
     let on = three (GoesOnFrom q) items r.front run r.back r.parts g.goes_on in
-    let past = three (IsPast q) items r.front run r.back r.parts b.past in
+    let past = three (IsPastPath q) items r.front run r.back r.parts b.past in
     record {
       suffixes = g.suffixes;
       path = q ++ j ∷ [];

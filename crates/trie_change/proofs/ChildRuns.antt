@@ -1,11 +1,11 @@
 -- The items that go on with each nibble, from the last nibble on.
-use Rattle.std.proofs.Common.{◌≡◌, ℕ, suc, ◌+◌, ◌-◌, ◌<◌, ◌≤◌, Bool, List, [], ◌∷◌, ◌++◌, length, get_or, map, reverse, take, drop, Option, refl, ap, ap₂, subst, sym, ◌∙◌, append_assoc, take-append-drop, inl, inr, length-append, length-take-le, arith}
+use Rattle.std.proofs.Common.{◌≡◌, ℕ, suc, ◌+◌, ◌-◌, ◌<◌, ◌≤◌, List, [], ◌∷◌, ◌++◌, length, get_or, map, reverse, take, drop, Option, refl, ap, ap₂, subst, sym, ◌∙◌, append_assoc, take-append-drop, inl, inr, length-append, length-take-le, arith}
 use Rattle.std.specs.Prelude.{All, filter}
 use Rattle.std.specs.List.{AllByRecursion, flat_map}
 use Rattle.std.proofs.lemmas.List.{append-nil, reverse-append}
 use Rattle.std.proofs.lemmas.List.Elements.{All-drop, filter-append, recursion_from_All}
 use Rattle.trie_model.specs.Nodes.{PathNode}
-use Rattle.trie_model.specs.Trie.{below, child_value, every_nibble, node_of_all}
+use Rattle.trie_model.specs.Trie.{below, child_value, node_of_all}
 use Rattle.trie_root.proofs.ReadOffNibbles.{from}
 use Rattle.trie_root.proofs.ShapesBytes.{all_joined}
 use Rattle.trie_read.proofs.OneFed.{all_split}
@@ -177,7 +177,7 @@ module _ {at : ℕ} {items : List Item} (b : ItemBranch at items) (c : Compariso
       let made : List PathNode → List PathNode = λ ns. filter (is_made b.group.under) ns in
       let less : 16 - (count + 1) ≡ j = omega arith in
       let nodes : made (flat_map (nodes_at_nibble b) (from (16 - (count + 1)) (count + 1)))
-          ≡ made (nodes_at_nibble b j) ++ made (flat_map (nodes_at_nibble b) (from (16 - count) count)) =
+      ≡ made (nodes_at_nibble b j) ++ made (flat_map (nodes_at_nibble b) (from (16 - count) count)) =
       ap (λ (is : List ℕ). made (flat_map (nodes_at_nibble b) is)) (one_more count small)
       ∙ filter-append (is_made b.group.under) (nodes_at_nibble b j) (flat_map (nodes_at_nibble b) (from (16 - count) count)) in
       record {

@@ -1,17 +1,17 @@
 -- A comparison of old and new nodes, from the highest path down, puts and drops what the others have not.
 use Rattle.std.proofs.Common.{◌≡◌, ℕ, Bool, true, false, cond, List, [], ◌∷◌, ◌++◌, reverse, T, refl, ap, ap₂, subst, sym, ◌∙◌}
-use Rattle.std.specs.Prelude.{◌&&◌, ◌||◌, not, filter}
+use Rattle.std.specs.Prelude.{◌&&◌, ◌||◌, not}
 use Rattle.std.specs.List.{AllByRecursion}
 use Rattle.std.specs.Str.{bytes_eq}
 use Rattle.std.specs.Ordering.{is_lt, nat_cmp}
 use Rattle.std.specs.Cmp.Lexicographic.{slice_cmp}
-use Rattle.std.proofs.lemmas.List.{append-nil, reverse-append, reverse-reverse}
+use Rattle.std.proofs.lemmas.List.{append-nil, reverse-reverse}
 use Rattle.std.proofs.lemmas.List.Elements.{filter-append}
 use Rattle.std.proofs.lemmas.Slice.Eq.{bytes_eq-Decides}
 use Rattle.trie_model.specs.Nodes.{PathNode, has_node, nodes_without}
 use Rattle.trie_read.proofs.Rising.{LowerThan, Rises, all_weaker}
 use Rattle.trie_change.specs.inner.Diffs.{Comparison, after_node, after_nodes, all_dropped, all_left, met, passed}
-use Rattle.trie_change.proofs.LowerNodes.{AllLower, Falls, IsLower, all_reversed, all_without, differs_back, has_joined, lower_differs, lower_through, lower_trans, none_above, none_below, other_lower, reversed, reversed_falls, without_lower}
+use Rattle.trie_change.proofs.LowerNodes.{AllLower, Falls, IsLower, all_reversed, all_without, differs_back, has_joined, lower_through, lower_trans, none_above, none_below, other_lower, reversed, reversed_falls, without_lower}
 
 -- each of some nodes is below all of others
 abbrev pub Below : List PathNode → List PathNode → Type 0

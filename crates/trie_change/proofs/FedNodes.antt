@@ -1,10 +1,9 @@
 -- What a comparison has come to once a fed node is taken off, and a new one put.
-use Rattle.std.proofs.Common.{◌≡◌, ◌⊎◌, ℕ, true, false, cond, List, [], ◌∷◌, ◌++◌, map, reverse, refl, ap, ap₂, subst, sym, ◌∙◌, inl, inr}
+use Rattle.std.proofs.Common.{◌≡◌, ◌⊎◌, ℕ, true, false, List, [], ◌∷◌, ◌++◌, map, reverse, refl, ap, ap₂, subst, sym, ◌∙◌, inl, inr}
 use Rattle.std.specs.Prelude.{All}
 use Rattle.std.specs.Str.{bytes_eq}
 use Rattle.std.proofs.lemmas.List.{map-append, reverse-append, reverse-reverse}
 use Rattle.std.proofs.lemmas.List.Elements.{All-pop}
-use Rattle.std.specs.Option.{option_to_list}
 use Rattle.std.specs.Prelude.{Some, IfSome}
 use Rattle.sdb_base.specs.declared.node.Node.{Node}
 use Rattle.sdb_base.specs.declared.node.NodeHash.{NodeHash}

@@ -1,5 +1,5 @@
 -- Items that stand for sorted suffixes, in their order, come one before the other by their paths.
-use Rattle.std.proofs.Common.{◌≡◌, ◌⊎◌, ℕ, suc, ◌+◌, ◌<◌, ◌≤◌, Bool, true, false, cond, eqb, List, [], ◌∷◌, ◌++◌, length, map, Option, Some, None, T, refl, ap, subst, sym, ◌∙◌, inl, inr, eq-eqb, length-append, arith}
+use Rattle.std.proofs.Common.{◌≡◌, ◌⊎◌, ℕ, suc, ◌<◌, Bool, true, false, cond, List, [], ◌∷◌, ◌++◌, length, Option, Some, None, T, refl, ap, subst, sym, ◌∙◌, inl, inr, eq-eqb, length-append, arith}
 use Rattle.std.specs.List.{AllByRecursion, cons_option, flat_map}
 use Rattle.std.specs.Option.{option_map}
 use Rattle.std.specs.Ordering.{is_lt, nat_cmp, ordering_then}
@@ -17,7 +17,7 @@ use Rattle.trie_read.proofs.Ways.{put_back}
 use Rattle.trie_change.specs.Frontier.{IsItem, suffixes_for}
 use Rattle.trie_change.specs.declared.frontier.Item.{Item}
 use Rattle.trie_change.specs.declared.frontier.Item.TheVariants as item
-use Rattle.trie_change.specs.inner.Built.{IsHere, IsPast, ItemBefore, ItemsRise, PathBefore, item_path}
+use Rattle.trie_change.specs.inner.Built.{IsHere, IsPastPath, ItemBefore, ItemsRise, PathBefore, item_path}
 use Rattle.trie_change.proofs.ItemPaths.{is_key}
 use Rattle.trie_change.proofs.LowerNodes.{IsLower, lower_differs}
 use Rattle.trie_change.proofs.Parting.{FirstOf, first_of}
@@ -91,7 +91,7 @@ abbrev IsBelowRoot : Item → Type 0
 IsBelowRoot (item.Entry e) = Unit {0}
 IsBelowRoot (item.Stub s) = s.path.items ≡ [] → ⊥
 
-past_root : (i : Item) → IsBelowRoot i → IsPast [] i
+past_root : (i : Item) → IsBelowRoot i → IsPastPath [] i
 past_root (item.Entry e) h = tt
 past_root (item.Stub s) h = by_path s.path.items refl
   where

@@ -1,15 +1,14 @@
 -- The node over a group of items, where they part, and the nodes below it.
-use Rattle.std.proofs.Common.{◌≡◌, ℕ, suc, ◌<◌, ◌≤◌, Bool, true, false, cond, eqb, List, [], ◌∷◌, ◌++◌, length, map, take, drop, T, Option, Some, None, refl, ap, ap₂, subst, sym, ◌∙◌, append_assoc, inl, inr, eq-eqb, length-append, arith}
+use Rattle.std.proofs.Common.{◌≡◌, ℕ, suc, ◌<◌, Bool, true, false, cond, eqb, List, [], ◌∷◌, ◌++◌, length, map, drop, T, Option, Some, None, refl, ap, ap₂, subst, sym, ◌∙◌, append_assoc, eq-eqb, length-append, arith}
 use Rattle.std.specs.Prelude.{◌==◌, ◌&&◌, if◌then◌else◌, not, filter}
 use Rattle.std.specs.List.{AllByRecursion, flat_map}
 use Rattle.std.specs.Ordering.{nat_cmp}
 use Rattle.std.specs.Cmp.Lexicographic.{slice_cmp}
 use Rattle.std.specs.FinMap.{is_sorted}
-use Rattle.std.proofs.lemmas.Float.{T_from_true}
 use Rattle.std.proofs.lemmas.List.{append-nil}
-use Rattle.trie_model.specs.Node.{Node, spelling}
+use Rattle.trie_model.specs.Node.{spelling}
 use Rattle.trie_model.specs.Nodes.{PathNode, if_any, is_stored, nodes_over}
-use Rattle.trie_model.specs.Trie.{Suffix, below, child_value, common_prefix, every_nibble, levels_of, node_of_all, value_here, with_prefix}
+use Rattle.trie_model.specs.Trie.{Suffix, below, child_value, every_nibble, levels_of, node_of_all, value_here, with_prefix}
 use Rattle.trie_codec.specs.Parts.{node_with}
 use Rattle.trie_root.proofs.Levels.{map_alike}
 use Rattle.trie_root.proofs.Prefixes.{below-append, without}
@@ -22,10 +21,10 @@ use Rattle.trie_read.proofs.Descents.{too_long}
 use Rattle.trie_read.proofs.Hanging.{Above, fits_below}
 use Rattle.trie_read.proofs.OneNode.{one_node}
 use Rattle.trie_read.proofs.Ways.{follows}
-use Rattle.trie_change.specs.Frontier.{IsItem, is_at_stub, is_under, path_node_at, suffixes_for}
+use Rattle.trie_change.specs.Frontier.{IsItem, is_at_stub, is_under, suffixes_for}
 use Rattle.trie_change.specs.declared.frontier.Item.{Item}
 use Rattle.trie_change.specs.declared.frontier.Item.TheVariants as item
-use Rattle.trie_change.specs.inner.Built.{IsPast, ItemGroup, is_made, item_path, made_of_group, node_of_group, nodes_at, nodes_below, nodes_from, value_after, values_below}
+use Rattle.trie_change.specs.inner.Built.{IsPastPath, ItemGroup, is_made, item_path, made_of_group, node_of_group, nodes_at, nodes_below, nodes_from, value_after, values_below}
 use Rattle.trie_change.proofs.ItemPaths.{drop_itself}
 use Rattle.trie_change.proofs.ItemSuffixes.{without_with}
 use Rattle.trie_change.proofs.Parting.{Parts, some_below, sorted_below}
@@ -44,7 +43,7 @@ same_end q [] = sym (eq-eqb (length (q ++ [])) (length q) (omega (arith, length-
 same_end q (x ∷ r) = unlike (suc (length r)) 0 (λ e. omega arith) ∙ sym (unlike (length (q ++ x ∷ r)) (length q) (λ e. omega (arith, length-append q (x ∷ r))))
 
 -- the suffixes are in the order of items of which the first is known
-pub value_of_first : (ss : List Suffix) (q : List ℕ) (first : Item) (others : List Item) → T (is_sorted (slice_cmp nat_cmp) ss) → IsItem ss first → IsPast q first
+pub value_of_first : (ss : List Suffix) (q : List ℕ) (first : Item) (others : List Item) → T (is_sorted (slice_cmp nat_cmp) ss) → IsItem ss first → IsPastPath q first
     → item_path first ≡ q ++ drop (length q) (item_path first)
     → flat_map (suffixes_for ss) (first ∷ others) ≡ with_prefix q (below q ss) → value_here (below q ss) ≡ value_after (length q) first
 value_of_first ss q (item.Entry e) others s is past on whole =
@@ -105,7 +104,7 @@ nodes_part g c parts =
 
 -- ---- which of them are made
 
-not_above : (p c : List ℕ) (i : Item) → IsPast (p ++ c) i → is_at_stub p i ≡ false
+not_above : (p c : List ℕ) (i : Item) → IsPastPath (p ++ c) i → is_at_stub p i ≡ false
 not_above p c (item.Entry e) past = refl
 not_above p c (item.Stub s) past =
     let path : s.path.items ≡ p ++ (c ++ past.0 ∷ past.1) = past.2 ∙ append_assoc p c (past.0 ∷ past.1) in
@@ -113,7 +112,7 @@ not_above p c (item.Stub s) past =
     omega (arith, ap length path, length-append p (c ++ past.0 ∷ past.1), length-append c (past.0 ∷ past.1)) in
     follows s.path.items p ∙ too_long s.path.items 0 p (omega (arith, longer))
 
-none_above : (p c : List ℕ) (is : List Item) (bytes : List ℕ) → AllByRecursion (IsPast (p ++ c)) is → is_under is (record { path = p; bytes = bytes }) ≡ false
+none_above : (p c : List ℕ) (is : List Item) (bytes : List ℕ) → AllByRecursion (IsPastPath (p ++ c)) is → is_under is (record { path = p; bytes = bytes }) ≡ false
 none_above p c [] bytes a = refl
 none_above p c (i ∷ is) bytes a = let one : is_at_stub p i ≡ false = not_above p c i a.0 in let rest : is_under is (record { path = p; bytes = bytes }) ≡ false = none_above p c is bytes a.1 in rw (one, rest)
 

@@ -1,15 +1,14 @@
 -- Paths of items in their order: what they share, and with what nibbles they go on.
-use Rattle.std.proofs.Common.{◌≡◌, ℕ, ◌<◌, ◌≤◌, Bool, true, false, eqb, List, [], ◌∷◌, ◌++◌, length, drop, Some, refl, ap, subst, sym, ◌∙◌, inl, inr, arith, eq-eqb, append_assoc}
+use Rattle.std.proofs.Common.{◌≡◌, ℕ, ◌≤◌, Bool, true, false, eqb, List, [], ◌∷◌, ◌++◌, length, drop, refl, ap, subst, sym, ◌∙◌, inl, inr, arith, eq-eqb, append_assoc}
 use Rattle.std.specs.List.{AllByRecursion}
-use Rattle.std.proofs.lemmas.Bool.Decides.{eqb_tells}
-use Rattle.trie_model.specs.Trie.{after_prefix, common}
+use Rattle.trie_model.specs.Trie.{common}
 use Rattle.trie_root.proofs.Ends.{AtMost}
 use Rattle.trie_root.proofs.Prefixes.{Begins, begins_further}
 use Rattle.trie_root.proofs.Rows.{unlike}
 use Rattle.trie_read.proofs.Ways.{put_back}
 use Rattle.trie_change.specs.declared.frontier.Item.{Item}
 use Rattle.trie_change.specs.declared.frontier.Item.TheVariants as item
-use Rattle.trie_change.specs.inner.Built.{GoesOnFrom, ItemBefore, ItemsRise, PathBefore, item_path, rank_of}
+use Rattle.trie_change.specs.inner.Built.{ItemBefore, ItemsRise, PathBefore, item_path, rank_of}
 
 pub drop_itself : (q r : List ℕ) → drop (length q) (q ++ r) ≡ r
 drop_itself [] r = refl

@@ -1,18 +1,17 @@
 -- The suffixes that items stand for, below a path and a nibble.
-use Rattle.std.proofs.Common.{◌≡◌, ℕ, suc, List, [], ◌∷◌, ◌++◌, length, map, drop, Option, Some, None, refl, ap, ap₂, subst, sym, ◌∙◌, append_assoc, true, eqb, eq-eqb, arith}
+use Rattle.std.proofs.Common.{◌≡◌, ℕ, suc, List, [], ◌∷◌, ◌++◌, length, map, drop, Some, refl, ap, ap₂, sym, ◌∙◌, append_assoc, true, eqb, eq-eqb, arith}
 use Rattle.std.specs.List.{AllByRecursion, flat_map}
 use Rattle.std.proofs.lemmas.List.{append-nil, map-append}
 use Rattle.std.proofs.lemmas.List.Concat.{flat_map-append}
 use Rattle.trie_model.specs.Trie.{Suffix, after_prefix, below, with_prefix}
 use Rattle.trie_root.proofs.Fronts.{none_with_other}
-use Rattle.trie_root.proofs.Prefixes.{Begins, below-append, begins_further, without}
+use Rattle.trie_root.proofs.Prefixes.{below-append, begins_further, without}
 use Rattle.trie_root.proofs.Rows.{joined}
 use Rattle.trie_root.proofs.Stripped.{AllBegin}
-use Rattle.trie_read.proofs.Hanging.{below-nil}
 use Rattle.trie_change.specs.Frontier.{suffixes_for}
 use Rattle.trie_change.specs.declared.frontier.Item.{Item}
 use Rattle.trie_change.specs.declared.frontier.Item.TheVariants as item
-use Rattle.trie_change.specs.inner.Built.{GoesOnFrom, IsPast, item_path, rank_after, rank_of}
+use Rattle.trie_change.specs.inner.Built.{GoesOnFrom, IsPastPath, item_path, rank_after, rank_of}
 use Rattle.trie_change.proofs.ItemPaths.{drop_itself}
 
 -- ---- prefixes put before and taken away
@@ -78,12 +77,12 @@ nothing_longer q ns n path e k =
     let same : n ∷ ns ≡ [] = sym (drop_itself q (n ∷ ns)) ∙ ap (λ (t : List ℕ). drop (length q) t) (sym e ∙ k) ∙ drop_itself q [] in cc
 
 -- one that goes on with another nibble, or a key that ends at the path, is not among them
-off_by : (ss : List Suffix) (q : List ℕ) (j : ℕ) (i : Item) (d : List ℕ) → IsPast q i → item_path i ≡ q ++ d → (rank_of d ≡ suc j → ⊥) → below (j ∷ []) (with_prefix d (rest_for ss i)) ≡ []
+off_by : (ss : List Suffix) (q : List ℕ) (j : ℕ) (i : Item) (d : List ℕ) → IsPastPath q i → item_path i ≡ q ++ d → (rank_of d ≡ suc j → ⊥) → below (j ∷ []) (with_prefix d (rest_for ss i)) ≡ []
 off_by ss q j (item.Entry e) [] past is off = refl
 off_by ss q j (item.Stub s) [] past is off = absurd (nothing_longer q past.1 past.0 s.path.items past.2 is)
 off_by ss q j i (k ∷ r) past is off = none_with_other k j (with_prefix (k ∷ r) (rest_for ss i)) (λ e. off (ap suc (sym e))) (all_begin_with k r (rest_for ss i))
 
-off_dropped : (ss : List Suffix) (q : List ℕ) (j : ℕ) (i : Item) → IsPast q i → (d : List ℕ) → item_path i ≡ q ++ d → (rank_of d ≡ suc j → ⊥)
+off_dropped : (ss : List Suffix) (q : List ℕ) (j : ℕ) (i : Item) → IsPastPath q i → (d : List ℕ) → item_path i ≡ q ++ d → (rank_of d ≡ suc j → ⊥)
     → all_with_path (q ++ j ∷ []) (suffixes_for ss i) ≡ []
 off_dropped ss q j i past d e off =
     let rest : List Suffix = rest_for ss i in
@@ -118,7 +117,7 @@ stand_on ss q j (i ∷ is) g a =
     with_joined (q ++ j ∷ []) (suffixes_for ss i) (flat_map (suffixes_for ss) is)
     ∙ ap₂ (λ (xs ys : List Suffix). xs ++ ys) (on_kept ss q j path.0 i path.1) (stand_on ss q j is g.1 a.1)
 
-stand_off : (ss : List Suffix) (q : List ℕ) (j : ℕ) (is : List Item) → AllGoOn q is → AllByRecursion (IsPast q) is → AllOff q j is
+stand_off : (ss : List Suffix) (q : List ℕ) (j : ℕ) (is : List Item) → AllGoOn q is → AllByRecursion (IsPastPath q) is → AllOff q j is
     → all_with_path (q ++ j ∷ []) (flat_map (suffixes_for ss) is) ≡ []
 stand_off ss q j [] g p a = refl
 stand_off ss q j (i ∷ is) g p a =
@@ -127,7 +126,7 @@ stand_off ss q j (i ∷ is) g p a =
 
 -- the items with the nibble, between others, stand for all suffixes that go on with the path and the nibble
 pub run_whole : (ss : List Suffix) (q : List ℕ) (j : ℕ) (front run back : List Item) → AllGoOn q front → AllGoOn q run → AllGoOn q back
-    → AllByRecursion (IsPast q) front → AllByRecursion (IsPast q) back → AllOff q j front → AllOn q j run → AllOff q j back
+    → AllByRecursion (IsPastPath q) front → AllByRecursion (IsPastPath q) back → AllOff q j front → AllOn q j run → AllOff q j back
     → flat_map (suffixes_for ss) (front ++ (run ++ back)) ≡ with_prefix q (below q ss)
     → flat_map (suffixes_for ss) run ≡ with_prefix (q ++ j ∷ []) (below (q ++ j ∷ []) ss)
 run_whole ss q j front run back gf gr gb pf pb f r b whole =

@@ -1,11 +1,9 @@
 -- A stub that alone stands for what goes on with a path hangs at that path.
-use Rattle.std.proofs.Common.{◌≡◌, ℕ, true, eqb, List, [], ◌∷◌, ◌++◌, length, map, reverse, drop, refl, ap, subst, sym, ◌∙◌, append_assoc, eq-eqb, inl, inr}
-use Rattle.std.specs.List.{flat_map}
+use Rattle.std.proofs.Common.{◌≡◌, ℕ, true, eqb, List, [], ◌∷◌, ◌++◌, length, reverse, drop, refl, ap, sym, ◌∙◌, append_assoc, eq-eqb, inl, inr}
 use Rattle.std.proofs.lemmas.List.{append-nil, reverse-append, reverse-reverse}
 use Rattle.trie_model.specs.Trie.{Suffix, below, common, common_prefix, with_prefix}
 use Rattle.trie_root.proofs.Prefixes.{below-append}
 use Rattle.trie_read.specs.Paths.{Hangs}
-use Rattle.trie_change.specs.Frontier.{suffixes_for}
 use Rattle.trie_change.specs.declared.frontier.Item.TheVariants as item
 use Rattle.trie_change.specs.declared.frontier.Stub.{Stub}
 use Rattle.trie_change.specs.inner.Built.{ItemGroup}

@@ -1,5 +1,5 @@
 -- What is made of a group of items: a stub's hash as it is, or the node that has what they share as its partial key.
-use Rattle.std.proofs.Common.{◌≡◌, ℕ, suc, ◌+◌, ◌-◌, ◌<◌, ◌≤◌, Bool, true, false, cond, eqb, List, [], ◌∷◌, ◌++◌, length, get_or, take, drop, Option, Some, None, refl, ap, ap₂, subst, sym, ◌∙◌, inl, inr, append_assoc, length-append, length-drop, arith}
+use Rattle.std.proofs.Common.{◌≡◌, ℕ, suc, ◌+◌, ◌-◌, ◌≤◌, Bool, true, false, cond, eqb, List, [], ◌∷◌, ◌++◌, length, get_or, take, drop, Option, Some, None, refl, ap, ap₂, subst, sym, ◌∙◌, inl, inr, append_assoc, length-append, length-drop, arith}
 use Rattle.std.specs.Prelude.{◌==◌, ◌&&◌, ◌||◌, not, filter, is_some}
 use Rattle.std.specs.List.{AllByRecursion, flat_map}
 use Rattle.std.proofs.lemmas.Bool.Decides.{eqb_tells}
@@ -21,7 +21,7 @@ use Rattle.trie_change.specs.declared.diff.Diff.{Diff}
 use Rattle.trie_change.specs.declared.frontier.Item.{Item}
 use Rattle.trie_change.specs.declared.frontier.Item.TheVariants as item
 use Rattle.trie_change.specs.declared.frontier.Stub.{Stub}
-use Rattle.trie_change.specs.inner.Built.{GoesOnFrom, IsHere, IsMade, IsPast, ItemBranch, ItemGroup, hash_here, is_made, item_path, made_of_group, node_of_group, nodes_below, nodes_from, value_after, values_below}
+use Rattle.trie_change.specs.inner.Built.{GoesOnFrom, IsHere, IsMade, IsPastPath, ItemBranch, ItemGroup, hash_here, is_made, item_path, made_of_group, node_of_group, nodes_below, nodes_from, value_after, values_below}
 use Rattle.trie_change.specs.inner.Diffs.{Comparison, IsComparison, after_nodes}
 use Rattle.trie_change.proofs.ChildRuns.{in_the_middle}
 use Rattle.trie_change.proofs.FedNodes.{ended}
@@ -154,7 +154,7 @@ group_made at end items g first bytes children c d some is away place below_it s
     let on : GoesOnFrom q first = head (GoesOnFrom q) parts.goes_on in
     let value : value_after end first ≡ value_here (below q g.suffixes) =
     ap (λ (n : ℕ). value_after n first) (sym b.group.place)
-    ∙ sym (value_of_first g.suffixes q first whole.0 (T_from_true _ g.sorted) (head (IsItem g.suffixes) g.stubs) (head (IsPast q) parts.past) on
+    ∙ sym (value_of_first g.suffixes q first whole.0 (T_from_true _ g.sorted) (head (IsItem g.suffixes) g.stubs) (head (IsPastPath q) parts.past) on
     (ap (λ (xs : List Item). flat_map (suffixes_for g.suffixes) xs) (sym whole.1) ∙ b.group.whole)) in
     let count : end - at ≡ length shared = omega arith in
     let partial : take (end - at) (drop at (item_path first)) ≡ shared =

@@ -1,5 +1,5 @@
 -- Where items part: all of their paths have what the first and the last share, and so have the suffixes.
-use Rattle.std.proofs.Common.{◌≡◌, ◌⊎◌, ℕ, suc, ◌+◌, Bool, true, false, eqb, List, [], ◌∷◌, ◌++◌, length, map, drop, T, refl, ap, ap₂, subst, sym, ◌∙◌, append_assoc, eq-eqb, inl, inr, length-append, arith}
+use Rattle.std.proofs.Common.{◌≡◌, ◌⊎◌, ℕ, ◌+◌, Bool, true, false, eqb, List, [], ◌∷◌, ◌++◌, length, map, drop, T, refl, ap, ap₂, subst, sym, ◌∙◌, append_assoc, eq-eqb, inl, inr, length-append}
 use Rattle.std.specs.List.{AllByRecursion, flat_map}
 use Rattle.std.specs.Ordering.{nat_cmp}
 use Rattle.std.specs.Cmp.Lexicographic.{slice_cmp}
@@ -18,9 +18,9 @@ use Rattle.trie_read.proofs.OneFed.{all_split}
 use Rattle.trie_change.specs.Frontier.{IsItem, suffixes_for}
 use Rattle.trie_change.specs.declared.frontier.Item.{Item}
 use Rattle.trie_change.specs.declared.frontier.Item.TheVariants as item
-use Rattle.trie_change.specs.inner.Built.{GoesOnFrom, IsHere, IsPast, ItemBefore, ItemBranch, ItemGroup, ItemsRise, PathBefore, item_path}
+use Rattle.trie_change.specs.inner.Built.{GoesOnFrom, IsHere, IsPastPath, ItemBefore, ItemBranch, ItemGroup, ItemsRise, PathBefore, item_path}
 use Rattle.trie_change.proofs.FedNodes.{ended}
-use Rattle.trie_change.proofs.ItemPaths.{before_after, by_paths, common_before, drop_itself, goes_further, is_key, rise_joined, second_goes_on, shared_before, stub_goes_on}
+use Rattle.trie_change.proofs.ItemPaths.{before_after, by_paths, common_before, drop_itself, goes_further, is_key, second_goes_on, shared_before, stub_goes_on}
 use Rattle.trie_change.proofs.ItemSuffixes.{AllGoOn, prefixes_joined, without_with}
 use Rattle.trie_change.proofs.LoneStubs.{stub_is_here}
 
@@ -41,7 +41,7 @@ shared_by at first last = common (drop at (item_path first)) (drop at (item_path
 pub record Parts {at : ℕ} {items : List Item} (g : ItemGroup at items) (c : List ℕ) : Type 0 where
   pub shared : common_prefix (below g.path g.suffixes) ≡ c
   pub goes_on : AllGoOn (g.path ++ c) items
-  pub past : AllByRecursion (IsPast (g.path ++ c)) items
+  pub past : AllByRecursion (IsPastPath (g.path ++ c)) items
   pub rises : ItemsRise items
 
 -- ---- one item
@@ -71,7 +71,7 @@ all_before_last : (between : List Item) (last : Item) → ItemsRise (between ++ 
 all_before_last [] last r = tt
 all_before_last (i ∷ is) last r = ((all_split (ItemBefore i) is (last ∷ []) r.0).1.0, all_before_last is last r.1)
 
-past_of : (q : List ℕ) (i : Item) → GoesOnFrom q i → (is_key i ≡ false → drop (length q) (item_path i) ≡ [] → ⊥) → IsPast q i
+past_of : (q : List ℕ) (i : Item) → GoesOnFrom q i → (is_key i ≡ false → drop (length q) (item_path i) ≡ [] → ⊥) → IsPastPath q i
 past_of q (item.Entry e) g some = tt
 past_of q (item.Stub s) g some = by_rest (drop (length q) s.path.items) g (some refl)
   where
@@ -94,7 +94,7 @@ record LastOf (ss : List Suffix) (i : Item) : Type 0 where
   is : suffixes_for ss i ≡ others ++ (item_path i ++ rest, value) ∷ []
 
 -- where a stub goes on with a path, some suffixes do
-pub some_below : (ss : List Suffix) (q : List ℕ) (i : Item) → IsItem ss i → IsPast q i → is_key i ≡ false → below (item_path i) ss ≡ [] → ⊥
+pub some_below : (ss : List Suffix) (q : List ℕ) (i : Item) → IsItem ss i → IsPastPath q i → is_key i ≡ false → below (item_path i) ss ≡ [] → ⊥
 some_below ss q (item.Entry e) h p k none = let no : true ≡ false = k in cc
 some_below ss q (item.Stub s) h p k none = elim h.some [
   | inl root ↦ longer q p.0 p.1 (sym p.2 ∙ root)
@@ -105,7 +105,7 @@ some_below ss q (item.Stub s) h p k none = elim h.some [
     longer [] n ns e = cc
     longer (x ∷ q) n ns e = cc
 
-pub first_of : (ss : List Suffix) (q : List ℕ) (i : Item) → IsItem ss i → IsPast q i → FirstOf ss i
+pub first_of : (ss : List Suffix) (q : List ℕ) (i : Item) → IsItem ss i → IsPastPath q i → FirstOf ss i
 first_of ss q (item.Entry e) h p = record { rest = []; value = e.value; others = []; is = ap (λ (t : List ℕ). (t, e.value) ∷ []) (sym (append-nil e.path.items)); ends = λ k. refl }
 first_of ss q (item.Stub s) h p = by_list (below s.path.items ss) refl
   where
@@ -119,7 +119,7 @@ first_of ss q (item.Stub s) h p = by_list (below s.path.items ss) refl
       ends = λ k. let no : false ≡ true = k in cc;
     }
 
-last_of : (ss : List Suffix) (q : List ℕ) (i : Item) → IsItem ss i → IsPast q i → LastOf ss i
+last_of : (ss : List Suffix) (q : List ℕ) (i : Item) → IsItem ss i → IsPastPath q i → LastOf ss i
 last_of ss q (item.Entry e) h p = record { rest = []; value = e.value; others = []; is = ap (λ (t : List ℕ). (t, e.value) ∷ []) (sym (append-nil e.path.items)) }
 last_of ss q (item.Stub s) h p = elim (ended (below s.path.items ss)) [
   | inl none ↦ absurd (some_below ss q (item.Stub s) h p refl none)
@@ -174,21 +174,21 @@ module _ (at : ℕ) (first last : Item) (between : List Item) (g : ItemGroup at 
   between_on = goes_between between on_between.0 before_between.0 (all_before_last between last r.1)
 
   -- a stub before the last goes on, and so does the last
-  past_before : (i : Item) → GoesOnFrom q i → ItemBefore i last → IsPast q i
+  past_before : (i : Item) → GoesOnFrom q i → ItemBefore i last → IsPastPath q i
   past_before i h k =
       let part : PathBefore (is_key i) (drop (length q) (item_path i)) (drop (length q) (item_path last)) =
       before_after (is_key i) q (item_path i) (item_path last) h last_on (by_paths i last k) in
       past_of q i h (λ stub. stub_goes_on _ _ (subst (λ (t : Bool). PathBefore t (drop (length q) (item_path i)) (drop (length q) (item_path last))) stub part))
 
-  past_between : (is : List Item) → AllGoOn q is → AllByRecursion (λ i. ItemBefore i last) is → AllByRecursion (IsPast q) is
+  past_between : (is : List Item) → AllGoOn q is → AllByRecursion (λ i. ItemBefore i last) is → AllByRecursion (IsPastPath q) is
   past_between [] h k = tt
   past_between (i ∷ is) h k = (past_before i h.0 k.0, past_between is h.1 k.1)
 
-  last_past : IsPast q last
+  last_past : IsPastPath q last
   last_past =
       past_of q last last_on (λ stub. second_goes_on (is_key first) _ _ (before_after (is_key first) q (item_path first) (item_path last) first_on last_on (by_paths first last before_between.1.0)))
 
-  first_past : IsPast q first
+  first_past : IsPastPath q first
   first_past = past_before first first_on before_between.1.0
 
   items_there : AllByRecursion (IsItem g.suffixes) between × AllByRecursion (IsItem g.suffixes) (last ∷ [])
@@ -226,7 +226,7 @@ module _ (at : ℕ) (first last : Item) (between : List Item) (g : ItemGroup at 
   more_parts = record {
     shared = suffixes_share;
     goes_on = (first_on, all_joined (GoesOnFrom q) between (last ∷ []) between_on (last_on, tt));
-    past = (first_past, all_joined (IsPast q) between (last ∷ []) (past_between between between_on (all_before_last between last r.1)) (last_past, tt));
+    past = (first_past, all_joined (IsPastPath q) between (last ∷ []) (past_between between between_on (all_before_last between last r.1)) (last_past, tt));
     rises = r;
   }
 

@@ -1,12 +1,7 @@
 -- What is put and dropped of the nodes that were fed and made is what is put and dropped of all stored ones.
-use Rattle.std.proofs.Common.{◌≡◌, ◌⊎◌, ℕ, Bool, true, false, cond, List, [], ◌∷◌, ◌++◌, length, drop, T, refl, ap, ap₂, subst, sym, ◌∙◌, inl, inr}
-use Rattle.std.specs.Prelude.{◌&&◌, ◌||◌, not, filter, All, ◌↔◌, Contains}
-use Rattle.std.specs.List.{AllByRecursion, flat_map}
-use Rattle.std.specs.Ordering.{is_lt, nat_cmp}
-use Rattle.std.specs.Cmp.Lexicographic.{slice_cmp}
-use Rattle.std.specs.FinMap.{is_sorted}
-use Rattle.std.specs.Str.{bytes_eq}
-use Rattle.std.proofs.lemmas.Slice.Eq.{bytes_eq-Decides}
+use Rattle.std.proofs.Common.{◌≡◌, Bool, true, false, cond, List, [], ◌∷◌, refl, ap, sym, ◌∙◌, inl, inr}
+use Rattle.std.specs.Prelude.{◌&&◌, ◌||◌, not, filter}
+use Rattle.std.specs.List.{AllByRecursion}
 use Rattle.sdb_blake2.specs.Blake2b.{H}
 use Rattle.trie_model.specs.Node.{spelling}
 use Rattle.trie_model.specs.Nodes.{PathNode, all_over, has_node, is_stored, nodes_without, stored_nodes}
@@ -17,12 +12,12 @@ use Rattle.trie_root.proofs.Stripped.{true_from_T}
 use Rattle.trie_read.proofs.Among.{Among, among_from, contains_from}
 use Rattle.trie_read.proofs.Hanging.{below-nil}
 use Rattle.trie_read.proofs.Rising.{Rises, rises_kept, stored_rise}
-use Rattle.trie_change.specs.Frontier.{is_under, suffixes_for}
+use Rattle.trie_change.specs.Frontier.{is_under}
 use Rattle.trie_change.specs.declared.frontier.Fed.{Fed}
 use Rattle.trie_change.specs.declared.frontier.Item.{Item}
-use Rattle.trie_change.specs.inner.Built.{GoesOnFrom, ItemGroup, is_made, item_path, made_of_group, node_of_group, nodes_from}
-use Rattle.trie_change.specs.inner.Diffs.{Comparison, after_nodes, all_dropped, all_left}
-use Rattle.trie_change.specs.inner.Settled.{IsSettled, fed_nodes}
+use Rattle.trie_change.specs.inner.Built.{GoesOnFrom, ItemGroup, is_made, made_of_group, node_of_group, nodes_from}
+use Rattle.trie_change.specs.inner.Diffs.{after_nodes, all_dropped, all_left}
+use Rattle.trie_change.specs.inner.Settled.{IsSettled}
 use Rattle.trie_change.proofs.Compared.{Compares, all_compared, drops_at_end}
 use Rattle.trie_change.proofs.Found.{has_it}
 use Rattle.trie_change.proofs.FrontierRises.{frontier_rises}

@@ -9,7 +9,6 @@ ghost use Rattle.trie_change.specs.Frontier.{IsLimited};
 ghost use Rattle.trie_change.specs.inner.Built.{FitsNode, IsMade, IsShortValue, ItemBranch, ItemGroup, hash_here, is_made, item_path, made_of_group, node_of_group, nodes_at, nodes_below, rank_after, value_after, values_below};
 ghost use Rattle.trie_change.specs.inner.Diffs.{AreShort, Comparison, IsComparison, after_nodes, most_in_node};
 
-
 use crate::diff::Diff;
 use crate::frontier::Item;
 use sdb_base::{Bytes, Nibbles, NodeHash, OutOfMemory};
@@ -77,12 +76,7 @@ fn spell_empty(alloc: Global) -> Result<Bytes, OutOfMemory>
 // The node over items that agree in their first `at` nibbles, of which there is one at least. The stored ones below it, from
 // the highest path down, go to the comparison.
 #[cycle(nodes)]
-fn made_of(
-    alloc: Global,
-    diff: &mut Diff,
-    items: &[Item],
-    at: usize,
-) -> Result<Made, OutOfMemory>
+fn made_of(alloc: Global, diff: &mut Diff, items: &[Item], at: usize) -> Result<Made, OutOfMemory>
     requires some { 1 ≤ length items.now }
     requires limited { All IsLimited items.now }
     requires long { All (λ i. at ≤ length (item_path i)) items.now }

@@ -1,15 +1,13 @@
 -- Items that agree in their first nibbles, and the nodes that are made of them.
-use Rattle.std.specs.Prelude.{◌≡◌, ◌⊎◌, ◌≤◌, ◌<◌, ℕ, suc, ◌==◌, ◌&&◌, not, Bool, true, false, List, [], ◌∷◌, ◌++◌, Option, Some, None, if◌then◌else◌, length, drop, take, map, filter, All, IfSome, IsTrue}
+use Rattle.std.specs.Prelude.{◌≡◌, ◌⊎◌, ◌≤◌, ◌<◌, ℕ, suc, ◌==◌, ◌&&◌, not, Bool, true, false, List, [], ◌∷◌, ◌++◌, Option, Some, None, if◌then◌else◌, length, drop, map, filter, IsTrue}
 use Rattle.std.specs.List.{AllByRecursion, flat_map}
 use Rattle.std.specs.Ordering.{nat_cmp}
 use Rattle.std.specs.Cmp.Lexicographic.{slice_cmp}
 use Rattle.std.specs.FinMap.{is_sorted}
 use Rattle.sdb_base.specs.declared.node.NodeHash.{NodeHash}
 use Rattle.sdb_blake2.specs.Blake2b.{H}
-use Rattle.trie_model.specs.Node.{merkle_value, spelling}
 use Rattle.trie_model.specs.Nodes.{PathNode, if_any, is_stored, nodes_over}
 use Rattle.trie_model.specs.Trie.{Suffix, below, child_value, every_nibble, levels_of, node_of_all, with_prefix}
-use Rattle.trie_read.specs.Paths.{node_at}
 use Rattle.trie_change.specs.Frontier.{IsHanging, IsItem, is_under, path_node_at, suffixes_for}
 use Rattle.trie_change.specs.declared.build.Made.{Made}
 use Rattle.trie_change.specs.declared.build.Made.TheVariants as made
@@ -69,9 +67,9 @@ IsHere path (item.Entry e ∷ is) = ⊥
 IsHere path (item.Stub s ∷ is) = s.path.items ≡ path
 
 -- a stub's path goes on after another
-abbrev pub IsPast : List ℕ → Item → Type 0
-IsPast path (item.Entry e) = Unit {0}
-IsPast path (item.Stub s) = (n : ℕ) × (ns : List ℕ) × (s.path.items ≡ path ++ n ∷ ns)
+abbrev pub IsPastPath : List ℕ → Item → Type 0
+IsPastPath path (item.Entry e) = Unit {0}
+IsPastPath path (item.Stub s) = (n : ℕ) × (ns : List ℕ) × (s.path.items ≡ path ++ n ∷ ns)
 
 -- ---- groups of them
 
@@ -93,7 +91,7 @@ pub record ItemGroup (at : ℕ) (items : List Item) : Type 0 where
 pub record ItemBranch (at : ℕ) (items : List Item) : Type 0 where
   pub group : ItemGroup at items
   pub rises : ItemsRise items
-  pub past : AllByRecursion (IsPast group.path) items
+  pub past : AllByRecursion (IsPastPath group.path) items
 
 -- ---- the nodes of them
 

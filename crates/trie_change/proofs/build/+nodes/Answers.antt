@@ -1,4 +1,4 @@
-use Rattle.std.proofs.Common.{rules, ◌≡◌, ℕ, false, ◌+◌, ◌-◌, ◌<◌, ◌≤◌, List, [], ◌∷◌, ◌++◌, length, get_or, take, drop, All, Option, Some, None, refl, sym, ap, subst, ◌∙◌, arith, length-append, length-take}
+use Rattle.std.proofs.Common.{rules, ◌≡◌, ℕ, false, ◌+◌, ◌-◌, ◌≤◌, List, [], ◌∷◌, length, get_or, drop, All, Some, None, refl, sym, ap, subst, ◌∙◌, arith, length-append, length-take}
 use Rattle.std.specs.Prelude.{◌==◌, IfSome, filter}
 use Rattle.std.specs.List.{flat_map}
 use Rattle.std.proofs.lemmas.List.{take_rest}
@@ -10,7 +10,7 @@ use Rattle.trie_root.proofs.ReadOffNibbles.{from}
 use Rattle.trie_change.specs.Frontier.{IsLimited}
 use Rattle.trie_change.specs.declared.frontier.Item.{Item}
 use Rattle.trie_change.specs.inner.Built.{IsShortValue, ItemGroup, hash_here, is_made, item_path, made_of_group, node_of_group, nodes_at, nodes_from}
-use Rattle.trie_change.specs.inner.Diffs.{AreShort, Comparison, IsComparison, after_nodes}
+use Rattle.trie_change.specs.inner.Diffs.{Comparison, IsComparison, after_nodes}
 use Rattle.trie_change.proofs.ChildRuns.{Coming, all_come, nodes_at_nibble, none_come, one_comes, run_group}
 use Rattle.trie_change.proofs.Parting.{shared_by}
 use Rattle.trie_change.proofs.MadeGroups.{any_there, away_from, end_within, group_made, group_some, kept_made, longer_path, path_taken, value_there}

@@ -1,10 +1,10 @@
-use Rattle.std.proofs.Common.{◌≡◌, ◌≤◌, ◌<◌, ℕ, true, false, List, ap, length, subst, sym, ◌∙◌, arith}
+use Rattle.std.proofs.Common.{◌≡◌, ◌≤◌, ◌<◌, true, false, ap, length, subst, sym, ◌∙◌, arith}
 use Rattle.std.proofs.lemmas.Result.{IfOk-weaker}
 use Rattle.sdb_blake2.specs.Blake2b.{H}
 use Rattle.trie_model.specs.Node.{merkle_value}
 use Rattle.trie_change.specs.declared.diff.Diff.{Diff}
 use Rattle.trie_change.specs.inner.Built.{IsMade}
-use Rattle.trie_change.specs.inner.Diffs.{Comparison, IsComparison, after_nodes}
+use Rattle.trie_change.specs.inner.Diffs.{IsComparison, after_nodes}
 use Rattle.trie_change.proofs.MadeValues.{come_with, long_stored, short_inline, stored_long, value_hashed, value_itself}
 use Rattle.trie_change.proofs.build.merkle_value_of.Goals as goal
 use Rattle.trie_change.proofs.build.merkle_value_of.Goals.{in-Kept, in-New+else-len-lt-HASH_LEN+in_ok-hash-in-New}

@@ -1,4 +1,4 @@
-use Rattle.std.proofs.Common.{◌≡◌, [], List, ℕ, true, ap, subst, sym, ◌∙◌, inl}
+use Rattle.std.proofs.Common.{◌≡◌, [], true, ap, subst, sym, ◌∙◌, inl}
 use Rattle.std.proofs.lemmas.Result.{IfOk-weaker}
 use Rattle.sdb_blake2.specs.Blake2b.{H}
 use Rattle.trie_model.specs.Nodes.{PathNode, is_stored}

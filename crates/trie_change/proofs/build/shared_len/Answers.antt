@@ -1,4 +1,4 @@
-use Rattle.std.proofs.Common.{◌≡◌, ℕ, ◌-◌, ◌+◌, ◌≤◌, List, drop, min, inl, inr, length, arith}
+use Rattle.std.proofs.Common.{◌≡◌, ℕ, ◌≤◌, List, drop, min, inl, inr, length, arith}
 use Rattle.std.proofs.lemmas.Bool.{cases_lt}
 use Rattle.trie_model.specs.Trie.{common}
 use Rattle.trie_root.proofs.Shared.{no_more_shared, none_left_to_share, none_left_to_share_with, one_more_shared}

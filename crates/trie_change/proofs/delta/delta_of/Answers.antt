@@ -1,11 +1,11 @@
-use Rattle.std.proofs.Common.{◌≡◌, List, map, ap, sym, ◌∙◌}
+use Rattle.std.proofs.Common.{List, map, ap, ◌∙◌}
 use Rattle.std.specs.Prelude.{filter, not}
 use Rattle.std.proofs.lemmas.List.Elements.{All-from_recursion}
 use Rattle.trie_model.specs.Nodes.{PathNode}
 use Rattle.trie_change.specs.Deltas.{hash_of_node, hashed}
 use Rattle.trie_change.specs.Frontier.{is_under}
 use Rattle.trie_change.specs.inner.Built.{made_of_group}
-use Rattle.trie_change.specs.inner.Diffs.{Comparison, HasItsHash, after_nodes, all_left}
+use Rattle.trie_change.specs.inner.Diffs.{HasItsHash, after_nodes, all_left}
 use Rattle.trie_change.proofs.SettledItems.{all_items, drops_are, fed_rise, puts_are, root_is}
 use Rattle.trie_change.proofs.SortedNodes.{rise_by_path}
 use Rattle.trie_change.proofs.delta.delta_of.Goals as goal

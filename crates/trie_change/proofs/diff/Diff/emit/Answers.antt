@@ -1,6 +1,6 @@
 use Rattle.std.proofs.Common.{length, refl, ap, subst, sym}
 use Rattle.std.proofs.lemmas.Result.{IfOk-weaker}
-use Rattle.trie_change.specs.inner.Diffs.{AreShort, Comparison, IsComparison}
+use Rattle.trie_change.specs.inner.Diffs.{AreShort, IsComparison}
 use Rattle.trie_change.proofs.PassedNodes.{all_passed, passed_one}
 use Rattle.trie_change.proofs.diff.Diff.emit.Goals as goal
 
