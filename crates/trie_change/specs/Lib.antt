@@ -1,1 +1,5 @@
 pub mod ChangedKeys
+pub mod Frontier
+pub mod Deltas
+pub mod Changing
+pub mod inner

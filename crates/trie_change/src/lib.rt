@@ -10,8 +10,16 @@
 //! with `keys_in_changes` for the keys that changes name. How the new nodes are made is left to the layer above.
 #![tactic(auto)]
 
+mod build;
+mod change_job;
+mod delta;
+mod diff;
+mod frontier;
 mod laws;
+mod settings;
 
+pub use change_job::ChangeJob;
+pub use delta::Delta;
 pub use laws::{
     children_keep_their_paths, no_changes_fetch_nothing, one_change_after_another, other_keys_stay,
     setting_the_same_value, what_is_not_fetched_stays, what_is_put_is_new_at_its_path,

@@ -1,0 +1,5 @@
+-- Definitions for the clauses of private functions and for their proofs. No other crate cites them.
+pub mod Built
+pub mod Diffs
+pub mod Settled
+pub mod Stages

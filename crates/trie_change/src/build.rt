@@ -1,0 +1,298 @@
+ghost use Rattle.std.specs.Prelude.{◌≡◌, ◌≢◌, ℕ, suc, ◌+◌, ◌-◌, ◌<◌, ◌≤◌, List, [], ◌∷◌, All, IfOk, IfSome, OnOk, drop, filter, length, slice_index_or, take, true, false};
+ghost use Rattle.sdb_blake2.specs.Blake2b.{H};
+ghost use Rattle.trie_model.specs.Node.{merkle_value, spelling};
+ghost use Rattle.trie_model.specs.Nodes.{PathNode};
+ghost use Rattle.trie_model.specs.Trie.{below, child_value, common, node_of_all};
+ghost use Rattle.trie_codec.specs.Parts.{node_with};
+ghost use Rattle.trie_codec.specs.Slices.{bytes_in};
+ghost use Rattle.trie_change.specs.Frontier.{IsLimited};
+ghost use Rattle.trie_change.specs.inner.Built.{FitsNode, IsMade, IsShortValue, ItemBranch, ItemGroup, hash_here, is_made, item_path, made_of_group, node_of_group, nodes_at, nodes_below, rank_after, value_after, values_below};
+ghost use Rattle.trie_change.specs.inner.Diffs.{AreShort, Comparison, IsComparison, after_nodes, most_in_node};
+
+use crate::diff::Diff;
+use crate::frontier::Item;
+use sdb_base::{Bytes, Nibbles, NodeHash, OutOfMemory};
+use std::alloc::Global;
+use trie_codec::{ChildList, Plain, encode, encode_parts};
+
+// A spelling of at least as many bytes is stored, and stands in the node above by its hash.
+const HASH_LEN: usize = 32;
+
+// The node over some items: a stub's, which stays, or a new one's spelling.
+#[derive(Debug, Drop)]
+enum Made {
+    Kept(NodeHash),
+    New(Bytes),
+}
+
+/// The root over all items. The stored nodes that are made, from the highest path down to the root, go to the comparison.
+pub(crate) fn root_of(
+    alloc: Global,
+    diff: &mut Diff,
+    items: &[Item],
+) -> Result<NodeHash, OutOfMemory>
+    requires limited { All IsLimited items.now }
+    requires short { AreShort diff.old.puts.items }
+    ensures still_short { OnOk result (AreShort diff.new.puts.items) }
+    ensures root { (g : ItemGroup 0 items.now) (c : Comparison) → IsComparison diff.old c
+        → IfOk result (λ root. (root.0 ≡ H (node_of_group g).bytes)
+        × IsComparison diff.new (after_nodes c (made_of_group g))) }
+{
+    match root_made(alloc, diff, items)? {
+        Made::Kept(hash) => Ok(hash),
+        Made::New(bytes) => diff.emit(&[], bytes),
+    }
+}
+
+// The root node, that of the empty trie where there are no items.
+fn root_made(alloc: Global, diff: &mut Diff, items: &[Item]) -> Result<Made, OutOfMemory>
+    requires limited { All IsLimited items.now }
+    requires short { AreShort diff.old.puts.items }
+    ensures still_short { OnOk result (AreShort diff.new.puts.items) }
+    ensures fits { IfOk result FitsNode }
+    ensures made { (g : ItemGroup 0 items.now) (c : Comparison) → IsComparison diff.old c
+        → IfOk result (IsMade c (node_of_group g) (made_of_group g) diff.new) }
+{
+    if items.is_empty() {
+        return Ok(Made::New(spell_empty(alloc)?));
+    }
+    made_of(alloc, diff, items, 0)
+}
+
+// The spelling of the node of the empty trie.
+#[tactic(auto, unfolding(trie_model::specs::Trie::node_over, trie_model::specs::Node::spelling))]
+fn spell_empty(alloc: Global) -> Result<Bytes, OutOfMemory>
+    ensures spelled { IfOk result (λ bytes. bytes ≡ spelling (node_of_all [])) }
+    ensures fits { IfOk result (λ bytes. length bytes ≤ most_in_node) }
+{
+    let node = Plain {
+        partial: Nibbles::new(alloc),
+        value: None,
+        children: ChildList::new(),
+    };
+    encode(alloc, &node)
+}
+
+// The node over items that agree in their first `at` nibbles, of which there is one at least. The stored ones below it, from
+// the highest path down, go to the comparison.
+#[cycle(nodes)]
+fn made_of(alloc: Global, diff: &mut Diff, items: &[Item], at: usize) -> Result<Made, OutOfMemory>
+    requires some { 1 ≤ length items.now }
+    requires limited { All IsLimited items.now }
+    requires long { All (λ i. at ≤ length (item_path i)) items.now }
+    requires short { AreShort diff.old.puts.items }
+    ensures still_short { OnOk result (AreShort diff.new.puts.items) }
+    ensures fits { IfOk result FitsNode }
+    ensures made { (g : ItemGroup at items.now) (c : Comparison) → IsComparison diff.old c
+        → IfOk result (IsMade c (node_of_group g) (made_of_group g) diff.new) }
+{
+    if let Some(hash) = hash_here(&items[0], at) {
+        return Ok(Made::Kept(hash));
+    }
+    let end = at + shared_of_ends(items, at);
+    let children = children_of(alloc, diff, items, end)?;
+    let bytes = spell_node(alloc, &items[0], at, end, children.as_slice())?;
+    Ok(Made::New(bytes))
+}
+
+// The Merkle values of the children of the node whose partial key ends at `at` nibbles, one for each next nibble. They are
+// made from the last one on, so that stored nodes come from the highest path down.
+#[cycle(nodes)]
+fn children_of(
+    alloc: Global,
+    diff: &mut Diff,
+    items: &[Item],
+    at: usize,
+) -> Result<Vec<Option<Bytes>>, OutOfMemory>
+    requires at { at ≤ 2048 }
+    requires limited { All IsLimited items.now }
+    requires short { AreShort diff.old.puts.items }
+    ensures still_short { OnOk result (AreShort diff.new.puts.items) }
+    ensures sixteen { IfOk result (λ children. length children.items ≡ 16) }
+    ensures fits { IfOk result (λ children. All (λ child. IfSome child IsShortValue) children.items) }
+    ensures children { (b : ItemBranch at items.now) (c : Comparison) → IsComparison diff.old c
+        → IfOk result (λ children. (children.items ≡ values_below b.group.suffixes b.group.path)
+        × IsComparison diff.new (after_nodes c (filter (is_made b.group.under) (nodes_below b.group.suffixes b.group.path)))) }
+{
+    let mut children = Vec::with_capacity(alloc, 16)?;
+    let mut rest = items;
+    for count in 0..16u8 {
+        let start = run_start(rest, at, 15 - count);
+        children.push(child_of(alloc, diff, &rest[start..], at + 1)?)?;
+        rest = &rest[..start];
+    }
+    children.reverse();
+    Ok(children)
+}
+
+// The Merkle value of the node over items that agree in their first `at` nibbles, if there are any.
+#[cycle(nodes)]
+fn child_of(
+    alloc: Global,
+    diff: &mut Diff,
+    items: &[Item],
+    at: usize,
+) -> Result<Option<Bytes>, OutOfMemory>
+    requires at { 1 ≤ at }
+    requires limited { All IsLimited items.now }
+    requires long { All (λ i. at ≤ length (item_path i)) items.now }
+    requires short { AreShort diff.old.puts.items }
+    ensures still_short { OnOk result (AreShort diff.new.puts.items) }
+    ensures fits { IfOk result (λ child. IfSome child IsShortValue) }
+    ensures child { (g : ItemGroup at items.now) (c : Comparison) → IsComparison diff.old c
+        → IfOk result (λ child. (child ≡ child_value node_of_all (below g.path g.suffixes))
+        × IsComparison diff.new (after_nodes c (filter (is_made g.under) (nodes_at g.suffixes g.path)))) }
+{
+    if items.is_empty() {
+        return Ok(None);
+    }
+    let made = made_of(alloc, diff, items, at)?;
+    let value = merkle_value_of(alloc, diff, path_before(&items[0], at), made)?;
+    Ok(Some(value))
+}
+
+// The Merkle value of a node below the root, which goes to the comparison if it is new and stored.
+fn merkle_value_of(
+    alloc: Global,
+    diff: &mut Diff,
+    path: &[u8],
+    made: Made,
+) -> Result<Bytes, OutOfMemory>
+    requires fits { FitsNode made }
+    requires short { AreShort diff.old.puts.items }
+    ensures still_short { OnOk result (AreShort diff.new.puts.items) }
+    ensures fits { IfOk result IsShortValue }
+    ensures value { (n : PathNode) (all : List PathNode) (c : Comparison) → n.path ≡ path.now → (n.path ≢ [])
+        → IsMade c n all diff.old made
+        → IfOk result (λ value. (value ≡ merkle_value n.bytes) × IsComparison diff.new (after_nodes c all)) }
+{
+    let hash = match made {
+        Made::Kept(hash) => hash,
+        Made::New(bytes) => {
+            if bytes.len() < HASH_LEN {
+                return Ok(bytes);
+            }
+            diff.emit(path, bytes)?
+        }
+    };
+    Bytes::from_slice(alloc, &hash.0)
+}
+
+// The hash of a stub whose path has `at` nibbles.
+fn hash_here(item: &Item, at: usize) -> Option<NodeHash>
+    ensures { result ≡ hash_here at item.now }
+{
+    match item {
+        Item::Entry(_) => None,
+        Item::Stub(stub) => {
+            if stub.path.as_slice().len() == at {
+                Some(stub.hash)
+            } else {
+                None
+            }
+        }
+    }
+}
+
+// Where an item is.
+fn path_of(item: &Item) -> &[u8]
+    ensures { result.now ≡ item_path item.now }
+{
+    match item {
+        Item::Entry(entry) => entry.path.as_slice(),
+        Item::Stub(stub) => stub.path.as_slice(),
+    }
+}
+
+// An item's first `at` nibbles.
+fn path_before(item: &Item, at: usize) -> &[u8]
+    requires { at ≤ length (item_path item.now) }
+    ensures { result.now ≡ take at (item_path item.now) }
+{
+    &path_of(item)[..at]
+}
+
+// How many nibbles the first and the last item share after `at`.
+fn shared_of_ends(items: &[Item], at: usize) -> usize
+    requires some { 1 ≤ length items.now }
+    ensures { (d : Item) → result ≡ length (common (drop at (item_path (slice_index_or items.now 0 d)))
+        (drop at (item_path (slice_index_or items.now (length items.now - 1) d)))) }
+{
+    let first = path_of(&items[0]);
+    let last = path_of(&items[items.len() - 1]);
+    shared_len(first, last, at)
+}
+
+// How many nibbles two paths share after `at`.
+fn shared_len(a: &[u8], b: &[u8], at: usize) -> usize
+    ensures { result ≡ length (common (drop at a.now) (drop at b.now)) }
+{
+    let most = a.len().min(b.len());
+    for i in at..most {
+        if a[i] != b[i] {
+            return i - at;
+        }
+    }
+    most.saturating_sub(at)
+}
+
+// From which item on all go on with the nibble after `at` nibbles.
+fn run_start(items: &[Item], at: usize, nibble: u8) -> usize
+    ensures fits { result ≤ length items.now }
+    ensures run { All (λ i. rank_after at i ≡ suc nibble) (drop result items.now) }
+    ensures other { (d : Item) → 0 < result → rank_after at (slice_index_or items.now (result - 1) d) ≢ suc nibble }
+{
+    let mut start = items.len();
+    while start > 0 && goes_on(&items[start - 1], at, nibble) {
+        start -= 1;
+    }
+    start
+}
+
+// Whether an item goes on with the nibble after `at` nibbles.
+fn goes_on(item: &Item, at: usize, nibble: u8) -> bool
+    ensures yes { result ≡ true → rank_after at item.now ≡ suc nibble }
+    ensures no { result ≡ false → rank_after at item.now ≢ suc nibble }
+{
+    match path_of(item).get(at) {
+        None => false,
+        Some(next) => *next == nibble,
+    }
+}
+
+// The value of the key that ends at `at` nibbles, if the item is one.
+fn value_here(item: &Item, at: usize) -> Option<&[u8]>
+    ensures { bytes_in result ≡ value_after at item.now }
+{
+    match item {
+        Item::Entry(entry) => {
+            if entry.path.as_slice().len() == at {
+                Some(entry.value.as_slice())
+            } else {
+                None
+            }
+        }
+        Item::Stub(_) => None,
+    }
+}
+
+// The spelling of the node over items that share what the first has from `at` to `end`.
+fn spell_node(
+    alloc: Global,
+    first: &Item,
+    at: usize,
+    end: usize,
+    children: &[Option<Bytes>],
+) -> Result<Bytes, OutOfMemory>
+    requires limited { IsLimited first.now }
+    requires rises { at ≤ end }
+    requires end { end ≤ length (item_path first.now) }
+    requires sixteen { length children.now ≡ 16 }
+    requires short { All (λ child. IfSome child IsShortValue) children.now }
+    ensures fits { IfOk result (λ bytes. length bytes ≤ most_in_node) }
+    ensures spelled { IfOk result (λ bytes. bytes
+        ≡ spelling (node_with (take (end - at) (drop at (item_path first.now))) (value_after end first.now) children.now)) }
+{
+    let partial = &path_of(first)[at..end];
+    encode_parts(alloc, partial, value_here(first, end), children)
+}
