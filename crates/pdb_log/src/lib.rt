@@ -14,3 +14,6 @@ mod ring_file;
 
 pub use fault::LogFault;
 pub use log::{Log, LogPlace};
+
+#[cfg(test)]
+mod tests;

@@ -422,3 +422,33 @@ impl<D: Disk> Log<D> {
         disk
     }
 }
+
+#[cfg(test)]
+impl<D: Disk> Log<D> {
+    /// The log as if the files 1 and 2 had so many bytes, and this were the last number.
+    pub(crate) fn with_ends(self, first: u64, second: u64, number: u64) -> Log<D> {
+        let Log {
+            disk,
+            gate,
+            number: _,
+            file,
+            ends: _,
+            synced,
+            last,
+        } = self;
+        Log {
+            disk,
+            gate,
+            number,
+            file,
+            ends: [0, first, second, 0, 0],
+            synced,
+            last,
+        }
+    }
+
+    /// The current file.
+    pub(crate) fn current(&self) -> u16 {
+        self.file.number
+    }
+}
