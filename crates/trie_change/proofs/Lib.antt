@@ -6,3 +6,4 @@ pub mod Put
 pub mod Deeper
 pub mod Idle
 pub mod Superseded
+pub mod KnownSteps

@@ -1,3 +1,7 @@
 -- Definitions for the clauses of private functions and for their proofs. No other crate cites them.
 pub mod Settled
+pub mod Known
+pub mod Room
+pub mod InOrder
+pub mod Merged
 pub mod Stages

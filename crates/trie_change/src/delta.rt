@@ -1,4 +1,14 @@
-use sdb_base::{HashList, NodeHash, NodeList};
+ghost use Rattle.std.specs.Prelude.{◌≡◌, ◌<◌, ◌≤◌, ◌^◌, List, length, All, IfOk};
+ghost use Rattle.trie_model.specs.Nodes.{PathNode, nodes_without, stored_nodes};
+ghost use Rattle.trie_model.specs.State.{State};
+ghost use Rattle.trie_model.specs.Trie.{trie_root};
+ghost use Rattle.trie_change.specs.Deltas.{IsDeltaOf};
+ghost use Rattle.trie_change.specs.Frontier.{IsLimited};
+ghost use Rattle.trie_change.specs.inner.Settled.{IsSettled};
+
+use crate::frontier::{Fed, Item};
+use sdb_base::{HashList, NodeHash, NodeList, OutOfMemory};
+use std::alloc::{AllocError, Global};
 
 /// What a change makes of the stored nodes of a state.
 #[derive(Debug, Drop)]
@@ -11,4 +21,18 @@ pub struct Delta {
     /// The hashes of the nodes that the state before has and the changed one has not at their paths, by rising path; fewer
     /// than 2^32.
     pub drops: HashList,
+}
+
+pub(crate) fn delta_of(
+    alloc: Global,
+    items: &[Item],
+    fed: Vec<Fed>,
+) -> Result<Delta, OutOfMemory>
+    requires limited { All IsLimited items.now }
+    ensures settled { (old : List PathNode) (m2 : State) → IsSettled old m2 fed.items items.now
+        → IfOk result (λ d. IsDeltaOf d (trie_root m2) (nodes_without (stored_nodes m2) old) (nodes_without old (stored_nodes m2))) }
+    ensures few { IfOk result (λ d. (length d.puts < 2 ^ 32) × (length d.drops < 2 ^ 32)) }
+    ensures short { IfOk result (λ d. All (λ n. length n.bytes ≤ 4200000) d.puts) }
+{
+    Err(AllocError)
 }

@@ -12,8 +12,11 @@
 
 mod change_job;
 mod delta;
+mod expand;
 mod frontier;
+mod in_order;
 mod laws;
+mod room;
 mod settings;
 
 pub use change_job::ChangeJob;

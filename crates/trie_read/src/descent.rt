@@ -126,8 +126,8 @@ fn is_child_too_deep(levels: u8, at: usize, child: ChildRef) -> bool
     }
 }
 
-// The node that bytes spell where it hangs after `at` nibbles, unless they are bad.
-pub(crate) fn read_at(at: usize, bytes: &[u8]) -> Option<NodeRef<'_>>
+/// The node that bytes spell where it hangs after `at` nibbles, unless they are bad.
+pub fn read_at(at: usize, bytes: &[u8]) -> Option<NodeRef<'_>>
     ensures good { is_some result ≡ not (is_bad_node at bytes.entry.now) }
     ensures node { IfSome result (λ r. node_of_bytes bytes.entry.now ≡ Ok (node_of_ref r)) }
 {
