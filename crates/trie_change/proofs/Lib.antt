@@ -7,3 +7,15 @@ pub mod Deeper
 pub mod Idle
 pub mod Superseded
 pub mod KnownSteps
+pub mod MovedDown
+pub mod CarriedStep
+pub mod Unfolds
+pub mod UnfoldedChild
+pub mod UnfoldedNode
+pub mod Disjoint
+pub mod SortedParts
+pub mod Sides
+pub mod ItemPaths
+pub mod Neighbours
+pub mod HangingBetween
+pub mod UnhungStep

@@ -8,7 +8,7 @@ ghost use Rattle.trie_model.specs.Trie.{suffixes_of};
 ghost use Rattle.trie_read.specs.Paths.{Hangs};
 ghost use Rattle.trie_root.specs.Suffixes.{IsEntry};
 ghost use Rattle.trie_change.specs.Frontier.{IsFrontier, IsHanging, IsLimited};
-ghost use Rattle.trie_change.specs.inner.InOrder.{IsOff, RootIsAlone, begins_one, goes_on, hangs_between, in_place, path_of_item};
+ghost use Rattle.trie_change.specs.inner.InOrder.{IsOff, begins_one, goes_on, hangs_between, in_place, path_of_item};
 
 use crate::frontier::{Item, Stub};
 use crate::settings::{Setting, begins_a_key};
@@ -77,7 +77,7 @@ pub(crate) fn move_to_unhung(found: &mut Vec<Item>, later: &mut Vec<Item>) -> Op
     ensures items { in_place found.new.items result later.new.items ≡ in_place found.old.items None later.old.items }
     ensures last { result ≡ None → later.new.items ≡ [] }
     ensures hanging { (m : State) → All IsEntry (entries m) → IsFrontier (suffixes_of m) (in_place found.old.items None later.old.items)
-        → RootIsAlone (in_place found.old.items None later.old.items) → AllByRecursion (IsHanging (suffixes_of m)) found.old.items
+        → AllByRecursion (IsHanging (suffixes_of m)) found.old.items
         → AllByRecursion (IsHanging (suffixes_of m)) found.new.items × IfSome result (λ s. Hangs (suffixes_of m) s.path.items → ⊥) }
 {
     while let Some(item) = later.pop() {

@@ -79,6 +79,7 @@ fn move_above(found: &mut Vec<Item>, key: &[u8], later: &mut Vec<Item>)
     ensures below { (s : Setting) → s.path.items ≡ key.now → IsBelowKey s (reverse found.new.items) }
     ensures room { vec_len later.new + vec_len found.new ≤ vec_len later.old + vec_len found.old }
     ensures capacity { vec_capacity later.new ≡ vec_capacity later.old }
+    ensures found_capacity { vec_capacity found.new ≡ vec_capacity found.old }
 {
     while let Some(item) = found.pop() {
         match path_of(&item).cmp(key) {
@@ -111,6 +112,7 @@ pub(crate) fn move_all(found: &mut Vec<Item>, later: &mut Vec<Item>)
     ensures items { later.new.items ≡ later.old.items ++ reverse found.old.items }
     ensures none { found.new.items ≡ [] }
     ensures capacity { vec_capacity later.new ≡ vec_capacity later.old }
+    ensures found_capacity { vec_capacity found.new ≡ vec_capacity found.old }
 {
     while let Some(item) = found.pop() {
         later.push_reserved(item);

@@ -6,7 +6,7 @@ use Rattle.trie_model.specs.State.{State}
 use Rattle.trie_model.specs.Trie.{suffixes_of}
 use Rattle.trie_root.specs.Suffixes.{IsEntry}
 use Rattle.trie_change.specs.Frontier.{IsFrontier, IsHanging}
-use Rattle.trie_change.specs.inner.InOrder.{RootIsAlone, in_place}
+use Rattle.trie_change.specs.inner.InOrder.{in_place}
 use Rattle.trie_change.proofs.in_order.move_to_unhung.Given as goal
 
 abbrev pub invariant-loop-item : goal.invariant-loop-item
@@ -14,8 +14,7 @@ invariant-loop-item l = record {
   room : vec_len l.found + vec_len l.later ≤ vec_capacity l.found;
   same : in_place l.found.items None l.later.items ≡ in_place l.fn.found.items None l.fn.later.items;
   hanging : (m : State) → All IsEntry (entries m) → IsFrontier (suffixes_of m) (in_place l.fn.found.items None l.fn.later.items)
-      → RootIsAlone (in_place l.fn.found.items None l.fn.later.items) → AllByRecursion (IsHanging (suffixes_of m)) l.fn.found.items
-      → AllByRecursion (IsHanging (suffixes_of m)) l.found.items;
+      → AllByRecursion (IsHanging (suffixes_of m)) l.fn.found.items → AllByRecursion (IsHanging (suffixes_of m)) l.found.items;
 }
 
 abbrev pub decreases-loop-item : goal.decreases-loop-item

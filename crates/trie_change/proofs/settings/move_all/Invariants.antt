@@ -6,6 +6,7 @@ invariant-loop-item l = record {
   moved : l.later.items ++ reverse l.found.items ≡ l.fn.later.items ++ reverse l.fn.found.items;
   room : vec_len l.later + vec_len l.found ≤ vec_capacity l.later;
   capacity : vec_capacity l.later ≡ vec_capacity l.fn.later;
+  found_capacity : vec_capacity l.found ≡ vec_capacity l.fn.found;
 }
 
 abbrev pub decreases-loop-item : goal.decreases-loop-item
