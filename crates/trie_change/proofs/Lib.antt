@@ -19,3 +19,8 @@ pub mod ItemPaths
 pub mod Neighbours
 pub mod HangingBetween
 pub mod UnhungStep
+pub mod KnownDeeper
+pub mod ItemsKnown
+pub mod Split
+pub mod Opened
+pub mod OneTaken

@@ -1,7 +1,6 @@
-use Rattle.trie_change.proofs.Disjoint.{not_above}
-use Rattle.trie_change.proofs.SortedParts.{there_some}
-use Rattle.trie_change.proofs.Sides.{share_there}
-use Rattle.trie_change.proofs.HangingBetween.{the_test}
+use Rattle.trie_change.proofs.OneTaken.{held_after}
+use Rattle.trie_change.proofs.KnownDeeper.{all_deeper}
+use Rattle.trie_change.proofs.ItemsKnown.{itself_all}
 use Rattle.trie_change.proofs.change_job.ChangeJob.finish.Goals as goal
 
 pub returns-clause-changed : goal.returns-clause-changed
