@@ -24,3 +24,9 @@ pub mod ItemsKnown
 pub mod Split
 pub mod Opened
 pub mod OneTaken
+pub mod OffWay
+pub mod HungUnder
+pub mod Orders
+pub mod MergedSteps
+pub mod MergedComing
+pub mod MergedWell
