@@ -30,3 +30,7 @@ pub mod Orders
 pub mod MergedSteps
 pub mod MergedComing
 pub mod MergedWell
+pub mod Nibbled
+pub mod SetBy
+pub mod AfterEntries
+pub mod CarriedOver

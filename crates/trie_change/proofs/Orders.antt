@@ -60,7 +60,7 @@ longer_below (x ∷ p) r (y ∷ k) e off =
 unlike_less : (q k : List ℕ) → key_cmp q k ≡ Less → eq_by_cmp key_cmp q k ≡ false
 unlike_less q k e = ap is_eq e
 
-unlike_more : (q k : List ℕ) → key_cmp k q ≡ Less → eq_by_cmp key_cmp q k ≡ false
+pub unlike_more : (q k : List ℕ) → key_cmp k q ≡ Less → eq_by_cmp key_cmp q k ≡ false
 unlike_more q k e = ap is_eq (nat_list_cmp_total.antisymm q k ∙ ap ordering_reverse e)
 
 -- ---- entries in order
@@ -69,7 +69,7 @@ module _ {X : Type 0} where
   abbrev pub Precedes : List ℕ × X → List ℕ × X → Type 0
   Precedes a b = key_cmp a.0 b.0 ≡ Less
 
-  above_one : (k : List ℕ) (es : List (List ℕ × X)) (b : List ℕ × X) → T (below_all key_cmp k es) → Among b es → key_cmp k b.0 ≡ Less
+  pub above_one : (k : List ℕ) (es : List (List ℕ × X)) (b : List ℕ × X) → T (below_all key_cmp k es) → Among b es → key_cmp k b.0 ≡ Less
   above_one k [] b h a = absurd a
   above_one k (e ∷ es) b h (inl same) = subst (λ (x : List ℕ × X). key_cmp k x.0 ≡ Less) same (less_from k e.0 (first_of_and _ (below_all key_cmp k es) h))
   above_one k (e ∷ es) b h (inr a) = above_one k es b (second_of_and (is_lt (key_cmp k e.0)) _ h) a

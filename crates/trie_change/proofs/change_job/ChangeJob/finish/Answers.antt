@@ -1,5 +1,8 @@
 use Rattle.trie_change.proofs.Orders.{found_there}
 use Rattle.trie_change.proofs.MergedWell.{merged_well}
+use Rattle.trie_change.proofs.SetBy.{begins_changed}
+use Rattle.trie_change.proofs.AfterEntries.{entries_after}
+use Rattle.trie_change.proofs.CarriedOver.{frontier_after}
 use Rattle.trie_change.proofs.OneTaken.{held_after}
 use Rattle.trie_change.proofs.OffWay.{changed_first}
 use Rattle.trie_change.proofs.HungUnder.{hung_none}
