@@ -42,6 +42,10 @@ path_not_there ss p none = by_test (has_path (all_over ss) p) refl
         let o : (o : PathNode) × (o.path ≡ p) × Among o (all_over ss) = path_found (all_over ss) p e in
         absurd (none (subst (Hangs ss) o.1 (is_hung ss o.0 o.2).path))
 
+pub each_of : (test : PathNode → Bool) (ns : List PathNode) → ((n : PathNode) → Among n ns → test n ≡ false) → AllByRecursion (λ (n : PathNode). test n ≡ false) ns
+each_of test [] f = tt
+each_of test (n ∷ ns) f = (f n (inl refl), each_of test ns (λ m a. f m (inr a)))
+
 module _ (ss : List Suffix) (nibbles : AreNibbles ss) where
   there_too : (s : Stub) → Hangs ss s.path.items → (n : PathNode) → Among n (stored_under ss (item.Stub s)) → has_path (all_over ss) n.path ≡ true
   there_too s h n a =
@@ -49,10 +53,6 @@ module _ (ss : List Suffix) (nibbles : AreNibbles ss) where
       let k : Among n (nodes_over (levels_of (below p ss)) p (below p ss)) = (among_kept n is_stored (nodes_over (levels_of (below p ss)) p (below p ss)) a).0 in
       let hung : Hung p (below p ss) n = hung_from (levels_of (below p ss)) p (below p ss) n (omega arith) k in
       path_is_there ss n.path nibbles (subst (Hangs ss) (sym hung.path) (hangs_on ss p hung.rest h hung.hangs))
-
-  each_of : (test : PathNode → Bool) (ns : List PathNode) → ((n : PathNode) → Among n ns → test n ≡ false) → AllByRecursion (λ (n : PathNode). test n ≡ false) ns
-  each_of test [] f = tt
-  each_of test (n ∷ ns) f = (f n (inl refl), each_of test ns (λ m a. f m (inr a)))
 
   hung_off : (keys : List (List ℕ)) (n : PathNode) → has_path (all_over ss) n.path ≡ true → is_unhung (all_over ss) keys n ≡ false
   hung_off keys n e = ap (λ b. not (is_changed keys n) && not b) e ∙ and_false (not (is_changed keys n))

@@ -34,3 +34,5 @@ pub mod Nibbled
 pub mod SetBy
 pub mod AfterEntries
 pub mod CarriedOver
+pub mod FirstFed
+pub mod SettledItems

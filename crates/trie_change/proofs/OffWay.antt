@@ -73,14 +73,14 @@ deeper_off keys p (i ∷ items) off a = (deeper_one keys p i off a.0, deeper_off
 
 -- ---- which node of a list is fetched first
 
-kept_first : (test : PathNode → Bool) (front back : List PathNode) (n : PathNode) → filter test front ≡ [] → test n ≡ true
+pub kept_first : (test : PathNode → Bool) (front back : List PathNode) (n : PathNode) → filter test front ≡ [] → test n ≡ true
     → filter test (front ++ n ∷ back) ≡ n ∷ filter test (front ++ back)
 kept_first test front back n none e =
     filter-append test front (n ∷ back) ∙ ap (λ (ns : List PathNode). ns ++ filter test (n ∷ back)) none
     ∙ ap (λ b. cond b (n ∷ filter test back) (filter test back)) e
     ∙ ap (λ (ns : List PathNode). n ∷ (ns ++ filter test back)) (sym none) ∙ ap (λ (ns : List PathNode). n ∷ ns) (sym (filter-append test front back))
 
-left_out : (test : PathNode → Bool) (front back : List PathNode) (n : PathNode) → test n ≡ false → filter test (front ++ n ∷ back) ≡ filter test (front ++ back)
+pub left_out : (test : PathNode → Bool) (front back : List PathNode) (n : PathNode) → test n ≡ false → filter test (front ++ n ∷ back) ≡ filter test (front ++ back)
 left_out test front back n e =
     filter-append test front (n ∷ back) ∙ ap (λ b. filter test front ++ cond b (n ∷ filter test back) (filter test back)) e ∙ sym (filter-append test front back)
 
