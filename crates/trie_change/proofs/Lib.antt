@@ -36,3 +36,5 @@ pub mod AfterEntries
 pub mod CarriedOver
 pub mod FirstFed
 pub mod SettledItems
+pub mod StageEnds
+pub mod StageMoves

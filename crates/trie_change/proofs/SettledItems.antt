@@ -133,9 +133,6 @@ module _ (m : State) (changes : List Change) (within : All IsEntry (entries m)) 
         stored_before m changes within after s clear n further.0 further.1 (hung_before s a),
       )
 
-  test : PathNode → Bool
-  test n = not (is_under items n)
-
   pub settled_items : IsSettled (stored_nodes m) (apply m changes) fed items
   settled_items =
       let passes : AllByRecursion (λ (n : PathNode). not (is_under items n) ≡ true) held.left =
