@@ -82,7 +82,7 @@ all_clear settings (item.Stub s ∷ items) a = (clear_of settings s a.0, all_cle
 
 -- ---- all turned round
 
-all_reversed : {X : Type 0} (P : X → Type 0) (xs : List X) → AllByRecursion P xs → AllByRecursion P (reverse xs)
+pub all_reversed : {X : Type 0} (P : X → Type 0) (xs : List X) → AllByRecursion P xs → AllByRecursion P (reverse xs)
 all_reversed P xs a = recursion_from_All P (reverse xs) (All-permutation P xs (reverse xs) (IsPermutation-reverse xs) (All-from_recursion P xs a))
 
 -- ---- over both states the same

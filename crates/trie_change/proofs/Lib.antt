@@ -38,3 +38,5 @@ pub mod FirstFed
 pub mod SettledItems
 pub mod StageEnds
 pub mod StageMoves
+pub mod LimitsKept
+pub mod GoingOn

@@ -65,7 +65,7 @@ impl ChangeJob {
     ghost use Rattle.trie_change.specs.inner.InOrder.{set_pairs};
     ghost use Rattle.trie_change.specs.inner.Known.{all_known, known_in};
     ghost use Rattle.trie_change.specs.inner.Merged.{HasBytes};
-    ghost use Rattle.trie_change.specs.inner.Stages.{HasPlaces, IsStage, IsUnderWay, parts_of};
+    ghost use Rattle.trie_change.specs.inner.Stages.{HasPlaces, IsCarriedOut, IsStage, IsUnderWay, parts_of};
     ghost use Rattle.trie_change.specs.declared.frontier.Stub.{Stub};
 
     // A job that has what is set, and knows of nothing, with room for a first item.
@@ -213,16 +213,31 @@ impl ChangeJob {
         requires wanted { self.old.wanted ≡ None }
         requires limits { KeepsLimits self.old }
         ensures limits { KeepsLimits self.new }
-        ensures stage { (m : State) (changes : List Change) (todo : List PathNode) → All IsEntry (entries m)
+        ensures stage { (m : State) (changes : List Change) (todo : List PathNode)
             → IsUnderWay self.old.settings.items (parts_of self.old) m changes todo → IsStage self.new m changes todo }
     {
-        if !self.settings.is_empty() {
-            self.wanted = move_to_set(self.settings.as_slice(), &mut self.found, &mut self.later);
-            if self.wanted.is_some() {
-                return;
-            }
-            carry_out(&mut self.settings, &mut self.found, &mut self.later);
+        if self.settings.is_empty() {
+            self.go_to_unhung();
+            return;
         }
+        self.wanted = move_to_set(self.settings.as_slice(), &mut self.found, &mut self.later);
+        if self.wanted.is_some() {
+            return;
+        }
+        carry_out(&mut self.settings, &mut self.found, &mut self.later);
+        self.go_to_unhung();
+    }
+
+    // Goes on to the next node that hangs where the changed trie has none.
+    fn go_to_unhung(&mut self)
+        requires room { vec_len self.old.found + vec_len self.old.later ≤ vec_capacity self.old.found }
+        requires settings { self.old.settings.items ≡ [] }
+        requires wanted { self.old.wanted ≡ None }
+        requires limits { KeepsLimits self.old }
+        ensures limits { KeepsLimits self.new }
+        ensures stage { (m : State) (changes : List Change) (todo : List PathNode)
+            → IsCarriedOut (parts_of self.old) m changes todo → IsStage self.new m changes todo }
+    {
         self.wanted = move_to_unhung(&mut self.found, &mut self.later);
     }
 

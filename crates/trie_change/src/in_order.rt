@@ -54,6 +54,7 @@ pub(crate) fn move_to_set(
     ensures last { result ≡ None → later.new.items ≡ [] }
     ensures off { AllByRecursion (IsOff settings.now) found.old.items → AllByRecursion (IsOff settings.now) found.new.items }
     ensures wanted { IfSome result (λ s. begins_one settings.now s.path.items ≡ true) }
+    ensures room { vec_len found.new + vec_len later.new ≤ vec_len found.old + vec_len later.old }
     ensures capacity { vec_capacity found.new ≡ vec_capacity found.old }
     ensures later_capacity { vec_capacity later.new ≡ vec_capacity later.old }
 {

@@ -110,6 +110,7 @@ fn put_setting(setting: Setting, later: &mut Vec<Item>)
 pub(crate) fn move_all(found: &mut Vec<Item>, later: &mut Vec<Item>)
     requires { vec_len later.old + vec_len found.old ≤ vec_capacity later.old }
     ensures items { later.new.items ≡ later.old.items ++ reverse found.old.items }
+    ensures len { vec_len later.new ≡ vec_len later.old + vec_len found.old }
     ensures none { found.new.items ≡ [] }
     ensures capacity { vec_capacity later.new ≡ vec_capacity later.old }
     ensures found_capacity { vec_capacity found.new ≡ vec_capacity found.old }
@@ -130,6 +131,7 @@ pub(crate) fn carry_out(
     ensures merged { IsMerged (reverse found.old.items) (reverse settings.old.items) later.new.items }
     ensures settings { settings.new.items ≡ [] }
     ensures found { found.new.items ≡ [] }
+    ensures room { vec_len found.new + vec_len later.new ≤ vec_len settings.old + vec_len found.old }
     ensures found_capacity { vec_capacity found.new ≡ vec_capacity found.old }
 {
     while let Some(setting) = settings.pop() {

@@ -13,6 +13,7 @@ loop-setting-preserved c = record {
       subst (λ (xs : List Item). IsMerged (reverse c.args.found.now.items) (reverse c.args.settings.now.items) xs) (sym one.1)
       (c.loop-setting.invariant.merged one.0 one.2);
   room = omega (arith, c.in-Some.ensures.len, c.move_above.ensures.room, c.put_setting.ensures.room, c.put_setting.ensures.capacity, c.move_above.ensures.capacity);
+  fewer = omega (arith, c.in-Some.ensures.len, c.move_above.ensures.room, c.put_setting.ensures.room, c.loop-setting.invariant.fewer);
   found_capacity = c.move_above.ensures.found_capacity ∙ c.loop-setting.invariant.found_capacity;
 }
 

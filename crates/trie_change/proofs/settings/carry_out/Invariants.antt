@@ -8,6 +8,7 @@ invariant-loop-setting l = record {
   merged : (rest : List Item) → IsMerged (reverse l.found.items) (reverse l.settings.items) rest
       → IsMerged (reverse l.fn.found.items) (reverse l.fn.settings.items) (l.later.items ++ rest);
   room : vec_len l.settings + vec_len l.found + vec_len l.later ≤ vec_capacity l.later;
+  fewer : vec_len l.settings + vec_len l.found + vec_len l.later ≤ vec_len l.fn.settings + vec_len l.fn.found;
   found_capacity : vec_capacity l.found ≡ vec_capacity l.fn.found;
 }
 
