@@ -2,4 +2,8 @@
 pub mod Built
 pub mod Diffs
 pub mod Settled
+pub mod Known
+pub mod Room
+pub mod InOrder
+pub mod Merged
 pub mod Stages

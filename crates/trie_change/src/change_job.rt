@@ -1,6 +1,15 @@
+ghost use Rattle.std.specs.Prelude.{◌≡◌, IfOk};
+
+use crate::delta::{Delta, delta_of};
+use crate::expand::items_of;
 use crate::frontier::{Fed, Item, Stub};
-use crate::settings::Setting;
-use std::alloc::Global;
+use crate::in_order::{move_to_set, move_to_unhung};
+use crate::room::{larger, move_over};
+use crate::settings::{Setting, carry_out, move_all, settings_of};
+use sdb_base::{Bytes, Changes, NodeHash, OutOfMemory};
+use smallvec::SmallVec;
+use std::alloc::{AllocError, Global};
+use trie_read::{TrieFault, read_node};
 
 /// A change of a state by its trie's nodes.
 #[derive(Debug, Drop)]
@@ -15,4 +24,236 @@ pub struct ChangeJob {
     found: Vec<Item>,
     // What comes after it, the last first.
     later: Vec<Item>,
+}
+
+// A node that was fed.
+fn fed_of(alloc: Global, wanted: &Stub, bytes: &[u8]) -> Result<Fed, OutOfMemory>
+    ensures path { IfOk result (λ f. f.path.items ≡ wanted.now.path.items) }
+    ensures hash { IfOk result (λ f. f.hash ≡ wanted.now.hash) }
+    ensures bytes { IfOk result (λ f. f.bytes ≡ bytes.now) }
+{
+    let path = SmallVec::from_slice(alloc, wanted.path.as_slice())?;
+    let bytes = Bytes::from_slice(alloc, bytes)?;
+    Ok(Fed {
+        path,
+        hash: wanted.hash,
+        bytes,
+    })
+}
+
+impl ChangeJob {
+    ghost use Rattle.std.specs.Prelude.{◌≡◌, ◌+◌, ◌≤◌, ◌<◌, ◌^◌, ℕ, true, false, List, ◌∷◌, ◌++◌, [], None, Some, Ok, length, reverse, All, IfOk, OnOk, OnErr, IfErr, IfSome, is_some, vec_len, vec_capacity};
+    ghost use Rattle.std.specs.Option.{option_map};
+    ghost use Rattle.std.specs.FinMap.{entries};
+    ghost use Rattle.std.specs.List.{AllByRecursion};
+    ghost use Rattle.sdb_base.specs.declared.Change.{Change};
+    ghost use Rattle.trie_codec.specs.NodeParts.{node_of_ref};
+    ghost use Rattle.trie_codec.specs.Reading.{node_of_bytes};
+    ghost use Rattle.trie_model.specs.Fetches.{change_fetches};
+    ghost use Rattle.trie_model.specs.Limits.{ChangesAreWithin};
+    ghost use Rattle.trie_model.specs.Node.{IsPartial, Node};
+    ghost use Rattle.trie_model.specs.Nodes.{PathNode, stored_nodes};
+    ghost use Rattle.trie_model.specs.State.{State, apply, no_keys};
+    ghost use Rattle.trie_model.specs.Trie.{trie_root};
+    ghost use Rattle.trie_root.specs.Suffixes.{IsEntry};
+    ghost use Rattle.trie_read.specs.Depth.{is_bad_node};
+    ghost use Rattle.trie_read.specs.Reads.{MatchFault};
+    ghost use Rattle.trie_read.specs.declared.fault.TrieFault.TheVariants.{OutOfMemory};
+    ghost use Rattle.trie_change.specs.Changing.{IsChanging, IsCreating, IsLimitedSetting, KeepsLimits, change_depth, change_wanted, settings_of};
+    ghost use Rattle.trie_change.specs.Deltas.{IsDelta, IsDeltaOf};
+    ghost use Rattle.trie_change.specs.Frontier.{IsLimited};
+    ghost use Rattle.trie_change.specs.inner.InOrder.{set_pairs};
+    ghost use Rattle.trie_change.specs.inner.Known.{all_known, known_in};
+    ghost use Rattle.trie_change.specs.inner.Merged.{HasBytes};
+    ghost use Rattle.trie_change.specs.inner.Stages.{HasPlaces, IsCarriedOut, IsStage, IsUnderWay, parts_of};
+    ghost use Rattle.trie_change.specs.declared.frontier.Stub.{Stub};
+
+    // A job that has what is set, and knows of nothing, with room for a first item.
+    fn begun(alloc: Global, changes: Changes) -> Result<ChangeJob, OutOfMemory>
+        requires { ChangesAreWithin changes }
+        ensures settings { IfOk result (λ j. set_pairs j.settings.items ≡ settings_of changes) }
+        ensures limits { IfOk result (λ j. AllByRecursion IsLimitedSetting j.settings.items) }
+        ensures bytes { IfOk result (λ j. AllByRecursion HasBytes j.settings.items) }
+        ensures fed { IfOk result (λ j. j.fed.items ≡ []) }
+        ensures wanted { IfOk result (λ j. j.wanted ≡ None) }
+        ensures found { IfOk result (λ j. j.found.items ≡ []) }
+        ensures later { IfOk result (λ j. j.later.items ≡ []) }
+        ensures room { IfOk result (HasPlaces 1) }
+    {
+        let settings = settings_of(alloc, changes)?;
+        let Some(room) = settings.len().checked_add(1) else {
+            return Err(AllocError);
+        };
+        Ok(ChangeJob {
+            alloc,
+            settings,
+            fed: Vec::new(alloc),
+            wanted: None,
+            found: Vec::with_capacity(alloc, room)?,
+            later: Vec::with_capacity(alloc, room)?,
+        })
+    }
+
+    /// A job that makes these changes of the state of that root, the last change of each key. Keys, values and the list keep
+    /// the limits of a block's changes.
+    pub fn new(alloc: Global, root: NodeHash, changes: Changes) -> Result<ChangeJob, OutOfMemory>
+        requires { ChangesAreWithin changes }
+        ensures changing { (m : State) → All IsEntry (entries m) → root.0 ≡ trie_root m
+            → IfOk result (λ j. IsChanging j m changes (change_fetches m changes)) }
+        ensures limits { IfOk result KeepsLimits }
+    {
+        let mut job = ChangeJob::begun(alloc, changes)?;
+        let path = SmallVec::new(alloc);
+        job.later.push_reserved(Item::Stub(Stub { path, hash: root }));
+        job.go_on();
+        Ok(job)
+    }
+
+    /// A job that makes these changes of the state without any key: it wants no node, drops none, and puts all nodes of the
+    /// state that it makes, the root's also where that has no key.
+    pub fn on_empty(alloc: Global, changes: Changes) -> Result<ChangeJob, OutOfMemory>
+        requires { ChangesAreWithin changes }
+        ensures creating { IfOk result (λ j. IsCreating j changes) }
+        ensures limits { IfOk result KeepsLimits }
+    {
+        let mut job = ChangeJob::begun(alloc, changes)?;
+        carry_out(&mut job.settings, &mut job.found, &mut job.later);
+        move_all(&mut job.later, &mut job.found);
+        Ok(job)
+    }
+
+    /// The hash of the next node to feed; None where all were fed.
+    pub fn want(&self) -> Option<&NodeHash>
+        ensures { option_map (λ h. h.now.0) result ≡ change_wanted self.now }
+    {
+        match &self.wanted {
+            Some(wanted) => Some(&wanted.hash),
+            None => None,
+        }
+    }
+
+    /// Takes the bytes of the wanted node. After an `Err` the same node is wanted.
+    pub fn feed(&mut self, bytes: &[u8]) -> Result<(), TrieFault>
+        requires wanted { is_some (change_wanted self.old) ≡ true }
+        requires limits { KeepsLimits self.old }
+        ensures limits { KeepsLimits self.new }
+        ensures changed { (m : State) (changes : List Change) (n : PathNode) (todo : List PathNode) → IsChanging self.old m changes (n ∷ todo)
+            → bytes.now ≡ n.bytes → OnOk result (IsChanging self.new m changes todo) }
+        ensures bad { OnOk result (is_bad_node (change_depth self.old) bytes.now ≡ false) }
+        ensures err { OnErr result (self.new ≡ self.old) }
+        ensures fault { IfErr result (λ f. MatchFault f (is_bad_node (change_depth self.old) bytes.now ≡ true)
+            (is_bad_node (change_depth self.old) bytes.now ≡ false) (change_wanted self.old)) }
+        ensures sound { (m : State) (changes : List Change) (n : PathNode) (todo : List PathNode) → IsChanging self.old m changes (n ∷ todo)
+            → bytes.now ≡ n.bytes → IfErr result (λ f. f ≡ OutOfMemory) }
+    {
+        let Some(wanted) = &self.wanted else {
+            unreachable!()
+        };
+        let hash = wanted.hash;
+        let Some(node) = read_node(wanted.path.len(), bytes) else {
+            return Err(TrieFault::BadNode { hash });
+        };
+        let Ok(items) = items_of(self.alloc, wanted.path.as_slice(), &node) else {
+            return Err(TrieFault::OutOfMemory);
+        };
+        let Ok(fed) = fed_of(self.alloc, wanted, bytes) else {
+            return Err(TrieFault::OutOfMemory);
+        };
+        let Ok(()) = self.take(items, fed) else {
+            return Err(TrieFault::OutOfMemory);
+        };
+        Ok(())
+    }
+
+    // How many items there can be with so many more.
+    fn most_with(&self, more: usize) -> Option<usize>
+        ensures { IfSome result (λ most. most ≡ vec_len self.now.found + vec_len self.now.later + vec_len self.now.settings + more) }
+    {
+        self.found
+            .len()
+            .checked_add(self.later.len())?
+            .checked_add(self.settings.len())?
+            .checked_add(more)
+    }
+
+    // Takes what the wanted node has in its place. An `Err` changes nothing.
+    fn take(&mut self, items: Vec<Item>, fed: Fed) -> Result<(), OutOfMemory>
+        requires limits { KeepsLimits self.old }
+        requires limited { AllByRecursion IsLimited items.items }
+        ensures limits { KeepsLimits self.new }
+        ensures taken { (m : State) (changes : List Change) (n : PathNode) (todo : List PathNode) (s : Stub) (node : Node) → IsChanging self.old m changes (n ∷ todo)
+            → self.old.wanted ≡ Some s → fed.path.items ≡ s.path.items → fed.hash ≡ s.hash → fed.bytes ≡ n.bytes
+            → node_of_bytes n.bytes ≡ Ok node → all_known items.items ≡ known_in 33 node s.path.items
+            → OnOk result (IsChanging self.new m changes todo) }
+        ensures err { OnErr result (self.new ≡ self.old) }
+    {
+        let mut items = items;
+        let Some(most) = self.most_with(items.len()) else {
+            return Err(AllocError);
+        };
+        let Some(most_fed) = self.fed.len().checked_add(1) else {
+            return Err(AllocError);
+        };
+        let found = larger(self.alloc, &self.found, most)?;
+        let later = larger(self.alloc, &self.later, most)?;
+        let others = larger(self.alloc, &self.fed, most_fed)?;
+        move_over(&mut self.found, found);
+        move_over(&mut self.later, later);
+        move_over(&mut self.fed, others);
+        self.wanted = None;
+        self.fed.push_reserved(fed);
+        move_all(&mut items, &mut self.later);
+        self.go_on();
+        Ok(())
+    }
+
+    // Goes on to the next node that is wanted. Where none is left on the way to a key that is set, what is set is carried out.
+    fn go_on(&mut self)
+        requires room { HasPlaces 0 self.old }
+        requires wanted { self.old.wanted ≡ None }
+        requires limits { KeepsLimits self.old }
+        ensures limits { KeepsLimits self.new }
+        ensures stage { (m : State) (changes : List Change) (todo : List PathNode)
+            → IsUnderWay self.old.settings.items (parts_of self.old) m changes todo → IsStage self.new m changes todo }
+    {
+        if self.settings.is_empty() {
+            self.go_to_unhung();
+            return;
+        }
+        self.wanted = move_to_set(self.settings.as_slice(), &mut self.found, &mut self.later);
+        if self.wanted.is_some() {
+            return;
+        }
+        carry_out(&mut self.settings, &mut self.found, &mut self.later);
+        self.go_to_unhung();
+    }
+
+    // Goes on to the next node that hangs where the changed trie has none.
+    fn go_to_unhung(&mut self)
+        requires room { vec_len self.old.found + vec_len self.old.later ≤ vec_capacity self.old.found }
+        requires settings { self.old.settings.items ≡ [] }
+        requires wanted { self.old.wanted ≡ None }
+        requires limits { KeepsLimits self.old }
+        ensures limits { KeepsLimits self.new }
+        ensures stage { (m : State) (changes : List Change) (todo : List PathNode)
+            → IsCarriedOut (parts_of self.old) m changes todo → IsStage self.new m changes todo }
+    {
+        self.wanted = move_to_unhung(&mut self.found, &mut self.later);
+    }
+
+    /// What the changes make of the stored nodes.
+    pub fn finish(self) -> Result<Delta, OutOfMemory>
+        requires wanted { change_wanted self ≡ None }
+        requires limits { KeepsLimits self }
+        ensures changed { (m : State) (changes : List Change) → IsChanging self m changes [] → IfOk result (λ d. IsDelta d m (apply m changes)) }
+        ensures created { (changes : List Change) → IsCreating self changes
+            → IfOk result (λ d. IsDeltaOf d (trie_root (apply no_keys changes)) (stored_nodes (apply no_keys changes)) []) }
+        ensures few { IfOk result (λ d. (length d.puts < 2 ^ 32) × (length d.drops < 2 ^ 32)) }
+        ensures short { IfOk result (λ d. All (λ n. length n.bytes ≤ 4200000) d.puts) }
+    {
+        let ChangeJob {
+            alloc, fed, found, ..
+        } = self;
+        delta_of(alloc, found.as_slice(), fed)
+    }
 }

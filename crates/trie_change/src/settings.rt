@@ -1,5 +1,18 @@
-use crate::frontier::Path;
-use sdb_base::Bytes;
+ghost use Rattle.std.specs.Prelude.{◌≡◌, ℕ, ◌+◌, ◌≤◌, List, [], ◌++◌, All, IfOk, IfSome, reverse, vec_len, vec_capacity};
+ghost use Rattle.std.specs.List.{AllByRecursion};
+ghost use Rattle.sdb_base.specs.Nibbles.{nibbles_of};
+ghost use Rattle.trie_model.specs.Limits.{ChangesAreWithin};
+ghost use Rattle.trie_change.specs.Changing.{IsLimitedSetting, settings_of};
+ghost use Rattle.trie_change.specs.inner.InOrder.{begins_one, set_pairs};
+ghost use Rattle.trie_change.specs.inner.Merged.{HasBytes, IsBelowKey, IsMerged, IsMovedDown, set_item};
+
+use crate::frontier::{Entry, Item, Path};
+use crate::in_order::path_of;
+use sdb_base::{Bytes, Change, Changes, OutOfMemory};
+use smallvec::SmallVec;
+use std::alloc::Global;
+use std::cmp::Ordering;
+use std::collections::BTreeMap;
 
 /// What a key is set to, None where it is deleted.
 #[derive(Debug, Drop)]
@@ -7,4 +20,123 @@ pub(crate) struct Setting {
     /// The key in nibbles.
     pub(crate) path: Path,
     pub(crate) value: Option<Bytes>,
+}
+
+// A key in nibbles.
+fn path_of_key(alloc: Global, key: &[u8]) -> Result<Path, OutOfMemory>
+    ensures { IfOk result (λ p. p.items ≡ nibbles_of key.now) }
+{
+    let mut path = SmallVec::new(alloc);
+    for byte in key {
+        path.push(byte / 16)?;
+        path.push(byte % 16)?;
+    }
+    Ok(path)
+}
+
+// What each key is set to last.
+fn last_of_each(
+    alloc: Global,
+    changes: Changes,
+) -> Result<BTreeMap<Bytes, Option<Bytes>>, OutOfMemory> {
+    let mut last = BTreeMap::new(alloc);
+    for change in changes.into_vec() {
+        let Change { key, value, .. } = change;
+        last.insert(key, value)?;
+    }
+    Ok(last)
+}
+
+/// What changes set, by rising key: the last change of each key.
+pub(crate) fn settings_of(alloc: Global, changes: Changes) -> Result<Vec<Setting>, OutOfMemory>
+    requires { ChangesAreWithin changes }
+    ensures settings { IfOk result (λ s. set_pairs s.items ≡ settings_of changes) }
+    ensures limits { IfOk result (λ s. AllByRecursion IsLimitedSetting s.items) }
+    ensures bytes { IfOk result (λ s. AllByRecursion HasBytes s.items) }
+{
+    let last = last_of_each(alloc, changes)?;
+    let mut settings = Vec::new(alloc);
+    for (key, value) in last {
+        let path = path_of_key(alloc, key.as_slice())?;
+        settings.push(Setting { path, value })?;
+    }
+    Ok(settings)
+}
+
+/// Whether a path begins a key that is set.
+pub(crate) fn begins_a_key(settings: &[Setting], path: &[u8]) -> bool
+    ensures { result ≡ begins_one settings.now path.now }
+{
+    settings
+        .iter()
+        .any(|setting| setting.path.as_slice().starts_with(path))
+}
+
+// Moves the items above a key, and drops one of the key itself.
+fn move_above(found: &mut Vec<Item>, key: &[u8], later: &mut Vec<Item>)
+    requires { vec_len later.old + vec_len found.old ≤ vec_capacity later.old }
+    ensures moved { IsMovedDown key.now found.old.items later.old.items found.new.items later.new.items }
+    ensures below { (s : Setting) → s.path.items ≡ key.now → IsBelowKey s (reverse found.new.items) }
+    ensures room { vec_len later.new + vec_len found.new ≤ vec_len later.old + vec_len found.old }
+    ensures capacity { vec_capacity later.new ≡ vec_capacity later.old }
+    ensures found_capacity { vec_capacity found.new ≡ vec_capacity found.old }
+{
+    while let Some(item) = found.pop() {
+        match path_of(&item).cmp(key) {
+            Ordering::Less => {
+                found.push_reserved(item);
+                return;
+            }
+            Ordering::Equal => {}
+            Ordering::Greater => later.push_reserved(item),
+        }
+    }
+}
+
+// Adds what a key is set to.
+fn put_setting(setting: Setting, later: &mut Vec<Item>)
+    requires { vec_len later.old + 1 ≤ vec_capacity later.old }
+    ensures items { later.new.items ≡ later.old.items ++ set_item setting setting.value }
+    ensures room { vec_len later.new ≤ vec_len later.old + 1 }
+    ensures capacity { vec_capacity later.new ≡ vec_capacity later.old }
+{
+    let Setting { path, value } = setting;
+    if let Some(value) = value {
+        later.push_reserved(Item::Entry(Entry { path, value }));
+    }
+}
+
+/// Moves all items, the last first.
+pub(crate) fn move_all(found: &mut Vec<Item>, later: &mut Vec<Item>)
+    requires { vec_len later.old + vec_len found.old ≤ vec_capacity later.old }
+    ensures items { later.new.items ≡ later.old.items ++ reverse found.old.items }
+    ensures len { vec_len later.new ≡ vec_len later.old + vec_len found.old }
+    ensures none { found.new.items ≡ [] }
+    ensures capacity { vec_capacity later.new ≡ vec_capacity later.old }
+    ensures found_capacity { vec_capacity found.new ≡ vec_capacity found.old }
+{
+    while let Some(item) = found.pop() {
+        later.push_reserved(item);
+    }
+}
+
+/// Carries out what is set on rising items. What comes of them goes to `later`, the last first.
+pub(crate) fn carry_out(
+    settings: &mut Vec<Setting>,
+    found: &mut Vec<Item>,
+    later: &mut Vec<Item>,
+)
+    requires room { vec_len settings.old + vec_len found.old ≤ vec_capacity later.old }
+    requires none { later.old.items ≡ [] }
+    ensures merged { IsMerged (reverse found.old.items) (reverse settings.old.items) later.new.items }
+    ensures settings { settings.new.items ≡ [] }
+    ensures found { found.new.items ≡ [] }
+    ensures room { vec_len found.new + vec_len later.new ≤ vec_len settings.old + vec_len found.old }
+    ensures found_capacity { vec_capacity found.new ≡ vec_capacity found.old }
+{
+    while let Some(setting) = settings.pop() {
+        move_above(found, setting.path.as_slice(), later);
+        put_setting(setting, later);
+    }
+    move_all(found, later);
 }

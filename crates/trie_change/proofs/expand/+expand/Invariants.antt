@@ -1,0 +1,20 @@
+use Rattle.std.proofs.Common.{◌≡◌, ◌+◌, ◌*◌, ◌-◌, [], ◌∷◌, ◌++◌, None}
+use Rattle.std.specs.List.{flat_map}
+use Rattle.std.specs.Prelude.{slice_index_or}
+use Rattle.trie_codec.specs.NodeParts.{node_of_ref}
+use Rattle.trie_root.proofs.ReadOffNibbles.{from}
+use Rattle.trie_change.specs.inner.Known.{all_known, known_at, known_in}
+use Rattle.trie_change.proofs.expand.+expand.Given as goal
+
+abbrev pub decreases-put_items : goal.decreases-put_items
+decreases-put_items l = 2 * l.levels
+
+abbrev pub decreases-put_child : goal.decreases-put_child
+decreases-put_child l = 2 * l.levels + 1
+
+-- what there is so far, and what the children have that are left, are what there is to be
+abbrev pub invariant-put_items-loop-i : goal.invariant-put_items-loop-i
+invariant-put_items-loop-i l =
+    all_known l.out.items
+    ++ flat_map (λ i. known_at (known_in (l.levels - 1)) (l.key ++ i ∷ []) (slice_index_or (node_of_ref l.node).children i None)) (from l.i (16 - l.i))
+    ≡ all_known l.fn.out.items ++ known_in l.levels (node_of_ref l.node) l.path

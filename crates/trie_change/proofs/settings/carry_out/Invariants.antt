@@ -1,0 +1,16 @@
+use Rattle.std.proofs.Common.{◌≡◌, ◌+◌, ◌≤◌, ◌++◌, List, reverse, vec_len, vec_capacity}
+use Rattle.trie_change.specs.inner.Merged.{IsMerged}
+use Rattle.trie_change.specs.declared.frontier.Item.{Item}
+use Rattle.trie_change.proofs.settings.carry_out.Given as goal
+
+abbrev pub invariant-loop-setting : goal.invariant-loop-setting
+invariant-loop-setting l = record {
+  merged : (rest : List Item) → IsMerged (reverse l.found.items) (reverse l.settings.items) rest
+      → IsMerged (reverse l.fn.found.items) (reverse l.fn.settings.items) (l.later.items ++ rest);
+  room : vec_len l.settings + vec_len l.found + vec_len l.later ≤ vec_capacity l.later;
+  fewer : vec_len l.settings + vec_len l.found + vec_len l.later ≤ vec_len l.fn.settings + vec_len l.fn.found;
+  found_capacity : vec_capacity l.found ≡ vec_capacity l.fn.found;
+}
+
+abbrev pub decreases-loop-setting : goal.decreases-loop-setting
+decreases-loop-setting l = vec_len l.settings

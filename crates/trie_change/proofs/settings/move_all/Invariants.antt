@@ -1,0 +1,14 @@
+use Rattle.std.proofs.Common.{◌≡◌, ◌+◌, ◌≤◌, ◌++◌, reverse, vec_len, vec_capacity}
+use Rattle.trie_change.proofs.settings.move_all.Given as goal
+
+abbrev pub invariant-loop-item : goal.invariant-loop-item
+invariant-loop-item l = record {
+  moved : l.later.items ++ reverse l.found.items ≡ l.fn.later.items ++ reverse l.fn.found.items;
+  len : vec_len l.later + vec_len l.found ≡ vec_len l.fn.later + vec_len l.fn.found;
+  room : vec_len l.later + vec_len l.found ≤ vec_capacity l.later;
+  capacity : vec_capacity l.later ≡ vec_capacity l.fn.later;
+  found_capacity : vec_capacity l.found ≡ vec_capacity l.fn.found;
+}
+
+abbrev pub decreases-loop-item : goal.decreases-loop-item
+decreases-loop-item l = vec_len l.found
