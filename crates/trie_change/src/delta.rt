@@ -36,9 +36,9 @@ pub(crate) fn delta_of(alloc: Global, items: &[Item], fed: Vec<Fed>) -> Result<D
     ensures few { IfOk result (λ d. (length d.puts < 2 ^ 32) × (length d.drops < 2 ^ 32)) }
     ensures short { IfOk result (λ d. All (λ n. length n.bytes ≤ 4200000) d.puts) }
 {
-    let mut diff = Diff::new(alloc, fed)?;
+    let mut diff = Diff::over(alloc, fed)?;
     let root = root_of(alloc, &mut diff, items)?;
-    let (puts, drops) = diff.finish()?;
+    let (puts, drops) = diff.ended()?;
     if puts.len() >= MOST_NODES || drops.len() >= MOST_NODES {
         return Err(AllocError);
     }

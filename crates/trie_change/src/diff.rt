@@ -35,7 +35,7 @@ fn by_path(a: &Fed, b: &Fed) -> Ordering
 
 impl Diff {
     /// Nothing is put yet or dropped.
-    pub(crate) fn new(alloc: Global, fed: Vec<Fed>) -> Result<Diff, OutOfMemory>
+    pub(crate) fn over(alloc: Global, fed: Vec<Fed>) -> Result<Diff, OutOfMemory>
         ensures short { IfOk result (λ d. AreShort d.puts.items) }
         ensures begins { (old : List PathNode) → RiseByPath old → IsPermutation old (fed_nodes fed.items)
             → All HasItsHash fed.items → IfOk result (λ d. IsComparison d (all_left old)) }
@@ -140,7 +140,7 @@ impl Diff {
     }
 
     /// What is put and dropped, by rising path, once all nodes have come.
-    pub(crate) fn finish(self) -> Result<(Vec<Node>, Vec<NodeHash>), OutOfMemory>
+    pub(crate) fn ended(self) -> Result<(Vec<Node>, Vec<NodeHash>), OutOfMemory>
         requires short { AreShort self.puts.items }
         ensures short { IfOk result (λ r. AreShort r.0.items) }
         ensures finished { (c : Comparison) → IsComparison self c

@@ -4,7 +4,7 @@ use Rattle.std.proofs.lemmas.Bool.Decides.{eqb_tells}
 use Rattle.trie_change.specs.declared.frontier.Fed.{Fed}
 use Rattle.trie_change.specs.inner.Diffs.{AreShort}
 use Rattle.trie_change.proofs.PassedNodes.{dropped_one, none_left}
-use Rattle.trie_change.proofs.diff.Diff.finish.Goals as goal
+use Rattle.trie_change.proofs.diff.Diff.ended.Goals as goal
 
 some : (fs : List Fed) (n : ℕ) → n ≡ length fs → false ≡ eqb n 0 → fs ≡ [] → ⊥
 some fs n h e nothing = let both : false ≡ true = e ∙ eq-eqb n 0 (omega (arith, ap length nothing)) in cc

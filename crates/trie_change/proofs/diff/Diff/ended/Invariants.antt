@@ -1,7 +1,7 @@
 use Rattle.std.proofs.Common.{length}
 use Rattle.trie_change.specs.inner.Diffs.{AreShort, Comparison, IsComparison}
 use Rattle.trie_change.proofs.PassedNodes.{Dropping}
-use Rattle.trie_change.proofs.diff.Diff.finish.Given as goal
+use Rattle.trie_change.proofs.diff.Diff.ended.Given as goal
 
 -- what is left is dropped so far
 abbrev pub invariant-loop-diff : goal.invariant-loop-diff

@@ -8,7 +8,7 @@ use Rattle.trie_change.specs.inner.Diffs.{HasItsHash}
 use Rattle.trie_change.specs.inner.Settled.{fed_nodes}
 use Rattle.trie_change.proofs.FedNodes.{fed_node}
 use Rattle.trie_change.proofs.SortedNodes.{fed_ascend, lower_fed, sorted_as_before}
-use Rattle.trie_change.proofs.diff.Diff.new.Goals as goal
+use Rattle.trie_change.proofs.diff.Diff.over.Goals as goal
 
 pub returns-clause-begins : goal.returns-clause-begins
 returns-clause-begins c = λ old r p h.
