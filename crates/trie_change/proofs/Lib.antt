@@ -40,3 +40,4 @@ pub mod StageEnds
 pub mod StageMoves
 pub mod LimitsKept
 pub mod GoingOn
+pub mod TakenStage
