@@ -41,3 +41,4 @@ pub mod StageMoves
 pub mod LimitsKept
 pub mod GoingOn
 pub mod TakenStage
+pub mod KnownLimits
