@@ -58,3 +58,5 @@ pub mod StageEnds
 pub mod StageMoves
 pub mod LimitsKept
 pub mod GoingOn
+pub mod TakenStage
+pub mod KnownLimits

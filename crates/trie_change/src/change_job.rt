@@ -177,7 +177,7 @@ impl ChangeJob {
     }
 
     // Takes what the wanted node has in its place. An `Err` changes nothing.
-    fn take(&mut self, items: Vec<Item>, fed: Fed) -> Result<(), OutOfMemory>
+    fn take(&mut self, mut items: Vec<Item>, fed: Fed) -> Result<(), OutOfMemory>
         requires limits { KeepsLimits self.old }
         requires limited { AllByRecursion IsLimited items.items }
         ensures limits { KeepsLimits self.new }
@@ -187,7 +187,6 @@ impl ChangeJob {
             → OnOk result (IsChanging self.new m changes todo) }
         ensures err { OnErr result (self.new ≡ self.old) }
     {
-        let mut items = items;
         let Some(most) = self.most_with(items.len()) else {
             return Err(AllocError);
         };

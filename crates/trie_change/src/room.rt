@@ -28,6 +28,7 @@ pub(crate) fn move_over<T: Drop>(items: &mut Vec<T>, larger: Option<Vec<T>>)
     requires empty { IfSome larger (λ v. v.items ≡ []) }
     requires fits { IfSome larger (λ v. vec_len items.old ≤ vec_capacity v) }
     ensures items { items.new.items ≡ items.old.items }
+    ensures len { vec_len items.new ≡ vec_len items.old }
     ensures room { (most : ℕ) → HasRoom items.old most larger → most ≤ vec_capacity items.new }
 {
     let Some(mut larger) = larger else {

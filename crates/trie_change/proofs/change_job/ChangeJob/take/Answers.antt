@@ -1,0 +1,52 @@
+use Rattle.std.proofs.Common.{◌≡◌, ◌+◌, ◌≤◌, ◌<◌, List, [], ◌∷◌, ◌++◌, None, Some, Option, ap, ap₂, reverse, subst, sym, ◌∙◌, arith, vec_len, vec_capacity}
+use Rattle.std.specs.List.{AllByRecursion}
+use Rattle.trie_root.proofs.ShapesBytes.{all_joined}
+use Rattle.trie_change.specs.Frontier.{IsLimited}
+use Rattle.trie_change.specs.declared.frontier.Fed.{Fed}
+use Rattle.trie_change.specs.declared.frontier.Item.{Item}
+use Rattle.trie_change.specs.declared.frontier.Stub.{Stub}
+use Rattle.trie_change.specs.inner.Stages.{IsStage, IsUnderWay}
+use Rattle.trie_change.proofs.CarriedOver.{all_reversed}
+use Rattle.trie_change.proofs.TakenStage.{taken, wants_of, with_wanted}
+use Rattle.trie_change.proofs.change_job.ChangeJob.take.Goals as goal
+
+pub push_reserved-requires : goal.push_reserved-requires
+push_reserved-requires c =
+    omega (arith, c.move_over-3.ensures.room c.in-Some-checked_add.most_fed c.in_ok-others.ensures.room, c.move_over-3.ensures.len, c.in-Some-checked_add.ensures, c.len-2.ensures)
+
+pub move_all-requires : goal.move_all-requires
+move_all-requires c =
+    omega (arith, c.move_over-2.ensures.room c.in-Some.most c.in_ok-later.ensures.room, c.move_over-2.ensures.len, c.in-Some.ensures, c.len.ensures)
+
+pub go_on-requires-clause-room : goal.go_on-requires-clause-room
+go_on-requires-clause-room c = record {
+  among_found = omega (arith, c.move_over.ensures.room c.in-Some.most c.in_ok-found.ensures.room, c.move_over.ensures.len, c.move_over-2.ensures.len, c.move_all.ensures.len, c.in-Some.ensures, c.len.ensures);
+  among_later = omega (arith, c.move_over-2.ensures.room c.in-Some.most c.in_ok-later.ensures.room, c.move_over.ensures.len, c.move_over-2.ensures.len, c.move_all.ensures.len, c.move_all.ensures.capacity, c.in-Some.ensures, c.len.ensures);
+}
+
+pub go_on-requires-clause-limits : goal.go_on-requires-clause-limits
+go_on-requires-clause-limits c = record {
+  settings = c.requires.limits.settings;
+  found = subst (AllByRecursion IsLimited) (sym c.move_over.ensures.items) c.requires.limits.found;
+  wanted = tt;
+  later = subst (AllByRecursion IsLimited) (sym c.move_all.ensures.items)
+      (all_joined IsLimited c.move_over-2.new.items.items (reverse c.args.items.items)
+      (subst (AllByRecursion IsLimited) (sym c.move_over-2.ensures.items) c.requires.limits.later) (all_reversed IsLimited c.args.items.items c.requires.limited));
+}
+
+pub returns-clause-taken : goal.returns-clause-taken
+returns-clause-taken c = λ m changes n todo s node changing is path hash bytes read known.
+    let j = c.args.self.now in
+    let before : IsUnderWay j.settings.items (with_wanted j.settings.items j.fed.items (Some s) j.found.items j.later.items) m changes (n ∷ todo) =
+    subst (λ (o : Option Stub). IsUnderWay j.settings.items (with_wanted j.settings.items j.fed.items o j.found.items j.later.items) m changes (n ∷ todo)) is changing.stage.under_way in
+    let after : IsUnderWay j.settings.items (with_wanted j.settings.items (j.fed.items ++ c.args.fed ∷ []) None j.found.items c.move_all.new.later.items) m changes todo =
+    taken m changes changing.within j.fed.items j.found.items j.later.items s n todo c.args.fed c.args.items.items c.move_all.new.later.items node path hash bytes read known
+    (c.move_all.ensures.items ∙ ap (λ (xs : List Item). xs ++ reverse c.args.items.items) c.move_over-2.ensures.items) j.settings.items j.settings.items before in
+    let fed_are : c.push_reserved.new.self.items ≡ j.fed.items ++ c.args.fed ∷ [] =
+    c.push_reserved.ensures.items ∙ ap (λ (fs : List Fed). fs ++ c.args.fed ∷ []) c.move_over-3.ensures.items in
+    let there : IsUnderWay j.settings.items (with_wanted j.settings.items c.push_reserved.new.self.items None c.move_over.new.items.items c.move_all.new.later.items) m changes todo =
+    subst (λ (fs : List Fed). IsUnderWay j.settings.items (with_wanted j.settings.items fs None c.move_over.new.items.items c.move_all.new.later.items) m changes todo) (sym fed_are)
+    (subst (λ (xs : List Item). IsUnderWay j.settings.items (with_wanted j.settings.items (j.fed.items ++ c.args.fed ∷ []) None xs c.move_all.new.later.items) m changes todo)
+    (sym c.move_over.ensures.items) after) in
+    let stage : IsStage c.go_on.new.self m changes todo = c.go_on.ensures.stage m changes todo there in
+    record { within = changing.within; changes_within = changing.changes_within; wants = wants_of c.go_on.new.self m changes todo changing.within stage; stage = stage }
