@@ -2,7 +2,9 @@
 use Rattle.std.proofs.Common.{◌≡◌, ◌≢◌, ℕ, ◌+◌, ◌<◌, ◌≤◌, ◌==◌, true, false, List, [], ◌∷◌, length, refl, sym, ◌∙◌, arith, inl, inr, Option, Some, None}
 use Rattle.std.proofs.lemmas.Bool.{cases_lt, le-ltb, lt-ltb, ne_eqb}
 use Rattle.sdb_base.specs.declared.Block.{Block}
+use Rattle.sdb_model.specs.declared.Refusal.TheVariants.{HasGenesis, NoGenesis}
 use Rattle.sdb_model.specs.declared.Reply.{Reply}
+use Rattle.sdb_model.specs.declared.Reply.TheVariants.{Refused}
 use Rattle.sdb_model.specs.declared.Task.{Task}
 use Rattle.sdb_script.specs.Grammar.{line_of}
 use Rattle.sdb_script.specs.declared.Line.{Line}
@@ -37,22 +39,24 @@ some_blocks : (blocks : List Block) → blocks ≢ [] → (length blocks == 0) �
 some_blocks [] h = absurd (h refl)
 some_blocks (b ∷ bs) h = ne_eqb _ 0 (λ e. absurd (omega (arith, e)))
 
-pub genesis_again : (s : SessionState) (window : ℕ) (b : Block) → s.begun ≡ true → s.blocks ≢ [] → answer s (lines.Genesis window b) ≡ None
+pub genesis_again : (s : SessionState) (window : ℕ) (b : Block) → s.begun ≡ true → s.blocks ≢ []
+    → answer s (lines.Genesis window b) ≡ Some (Some (replies.Refused HasGenesis), s)
 unfolding answer
 genesis_again s window b e h = rw (e, some_blocks s.blocks h) refl
 
-pub job_early : (s : SessionState) (task : Task) → s.blocks ≡ [] → answer s (lines.Job task) ≡ None
+pub job_early : (s : SessionState) (task : Task) → s.begun ≡ false → answer s (lines.Job task) ≡ None
 unfolding answer
-job_early s task f = rw f refl
+job_early s task e = rw e refl
 
-pub job_is : (s : SessionState) (task : Task) (reply : Reply) (after : List Block) → s.blocks ≢ [] → answer_job s.blocks task ≡ Some (reply, after)
-    → answer s (lines.Job task) ≡ Some (Some (replies.Job reply), record s { blocks = after })
+pub job_without_genesis : (s : SessionState) (task : Task) → s.begun ≡ true → s.blocks ≡ []
+    → answer s (lines.Job task) ≡ Some (Some (replies.Job (Refused NoGenesis)), s)
 unfolding answer
-job_is s task reply after h e = rw (some_blocks s.blocks h, e) refl
+job_without_genesis s task e f = rw (e, f) refl
 
-pub job_none : (s : SessionState) (task : Task) → s.blocks ≢ [] → answer_job s.blocks task ≡ None → answer s (lines.Job task) ≡ None
+pub job_is : (s : SessionState) (task : Task) (reply : Reply) → s.begun ≡ true → s.blocks ≢ [] → reply ≡ (answer_job s.blocks task).0
+    → answer s (lines.Job task) ≡ Some (Some (replies.Job reply), record s { blocks = (answer_job s.blocks task).1 })
 unfolding answer
-job_none s task h e = rw (some_blocks s.blocks h, e) refl
+job_is s task reply e h f = rw (e, some_blocks s.blocks h, f) refl
 
 -- ---- a line's text
 

@@ -6,7 +6,7 @@ use Rattle.std.proofs.lemmas.Bool.{le-leb}
 use Rattle.std.proofs.lemmas.Bool.Decides.{nat_tests}
 use Rattle.sdb_base.specs.declared.Block.{Block}
 use Rattle.sdb_model.specs.Blocks.{count_at, number_of}
-use Rattle.sdb_model.specs.declared.Refusal.TheVariants.{AlreadyExists, UnknownParent}
+use Rattle.sdb_model.specs.declared.Refusal.TheVariants.{AlreadyExists, TooManySiblings, UnknownParent}
 use Rattle.sdb_model.specs.declared.Reply.{Reply}
 use Rattle.sdb_model.specs.declared.Reply.TheVariants.{Imported, Refused}
 use Rattle.sdb_serve.specs.inner.Blocks.{RepresentsBlocks, id_cmp}
@@ -16,23 +16,23 @@ use Rattle.sdb_serve.specs.declared.blocks.BlockEntry.{BlockEntry}
 use Rattle.sdb_serve.proofs.Keeping.{entry_has_chain}
 
 -- the reply by how many blocks have the number
-abbrev by_room : ℕ → ℕ → Option Reply
-by_room number siblings = cond (nat_le most_siblings siblings) None (Some (Imported number))
+abbrev by_room : ℕ → ℕ → Reply
+by_room number siblings = cond (nat_le most_siblings siblings) (Refused (TooManySiblings number)) (Imported number)
 
 lt-leb : (a b : ℕ) → b < a → nat_le a b ≡ false
 lt-leb a b less = grind (arith, nat_tests)
 
-pub no_room : (number siblings : ℕ) → most_siblings ≤ siblings → None ≡ by_room number siblings
-no_room number siblings full = ap (λ t. cond t None (Some (Imported number))) (sym (le-leb most_siblings siblings full))
+pub no_room : (number siblings : ℕ) → most_siblings ≤ siblings → Refused (TooManySiblings number) ≡ by_room number siblings
+no_room number siblings full = ap (λ t. cond t (Refused (TooManySiblings number)) (Imported number)) (sym (le-leb most_siblings siblings full))
 
-pub room : (number siblings : ℕ) → siblings < most_siblings → Some (Imported number) ≡ by_room number siblings
-room number siblings less = ap (λ t. cond t None (Some (Imported number))) (sym (lt-leb most_siblings siblings less))
+pub room : (number siblings : ℕ) → siblings < most_siblings → Imported number ≡ by_room number siblings
+room number siblings less = ap (λ t. cond t (Refused (TooManySiblings number)) (Imported number)) (sym (lt-leb most_siblings siblings less))
 
 module _ (m : BlockMap) (blocks : List Block) (b : Block) (represents : RepresentsBlocks m blocks) where
   parent_number : (o : Option BlockEntry) → get id_cmp m.blocks b.parent ≡ o → number_of blocks b.parent ≡ option_map (λ (k : BlockEntry). k.number) o
   parent_number o e = sym (represents.numbers b.parent) ∙ ap (option_map (λ (k : BlockEntry). k.number)) e
 
-  pub import_without_parent : get id_cmp m.blocks b.parent ≡ None → Some (Refused UnknownParent) ≡ import_reply blocks b
+  pub import_without_parent : get id_cmp m.blocks b.parent ≡ None → Refused UnknownParent ≡ import_reply blocks b
   unfolding import_reply
   import_without_parent e = ap (import_on blocks b) (sym (parent_number None e))
 
@@ -46,13 +46,13 @@ module _ (m : BlockMap) (blocks : List Block) (b : Block) (represents : Represen
         omega arith
 
     by_id : (known : Bool) → is_some (get id_cmp m.blocks b.id) ≡ known
-        → cond known (Some (Refused AlreadyExists)) (by_room (parent.number + 1) (count_at blocks (parent.number + 1))) ≡ import_reply blocks b
+        → cond known (Refused AlreadyExists) (by_room (parent.number + 1) (count_at blocks (parent.number + 1))) ≡ import_reply blocks b
     unfolding import_reply
     by_id known e =
-        ap (λ t. cond t (Some (Refused AlreadyExists)) (by_room (parent.number + 1) (count_at blocks (parent.number + 1)))) (sym e ∙ entry_has_chain m blocks b.id represents)
+        ap (λ t. cond t (Refused AlreadyExists) (by_room (parent.number + 1) (count_at blocks (parent.number + 1)))) (sym e ∙ entry_has_chain m blocks b.id represents)
         ∙ ap (import_on blocks b) (sym (parent_number (Some parent) at_parent))
 
-    pub import_again : is_some (get id_cmp m.blocks b.id) ≡ true → Some (Refused AlreadyExists) ≡ import_reply blocks b
+    pub import_again : is_some (get id_cmp m.blocks b.id) ≡ true → Refused AlreadyExists ≡ import_reply blocks b
     import_again known = by_id true known
 
     pub import_of_new : is_some (get id_cmp m.blocks b.id) ≡ false → (number siblings : ℕ) → number ≡ min (parent.number + 1) (2 ^ 64 - 1)

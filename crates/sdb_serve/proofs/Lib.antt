@@ -2,6 +2,7 @@ pub mod Answering
 pub mod Entries
 pub mod Imports
 pub mod Keeping
+pub mod ListedKeys
 pub mod Outputs
 pub mod Lines
 pub mod Running

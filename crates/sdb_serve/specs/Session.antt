@@ -1,18 +1,20 @@
 -- What the lines of a script do, one after another.
-use Rattle.std.specs.Prelude.{ℕ, ◌+◌, ◌^◌, ◌==◌, ◌&&◌, nat_lt, Bool, true, false, List, [], ◌∷◌, ◌++◌, length, if◌then◌else◌, Option, Some, None, option_and_then}
+use Rattle.std.specs.Prelude.{ℕ, ◌+◌, ◌^◌, ◌==◌, not, nat_lt, Bool, true, false, List, [], ◌∷◌, ◌++◌, length, if◌then◌else◌, Option, Some, None, option_and_then}
 use Rattle.std.specs.Option.{option_map}
 use Rattle.sdb_base.specs.declared.Block.{Block}
 use Rattle.sdb_model.specs.Blocks.{state_of}
+use Rattle.sdb_model.specs.declared.Refusal.TheVariants.{HasGenesis, NoGenesis}
 use Rattle.sdb_model.specs.declared.Reply.{Reply}
+use Rattle.sdb_model.specs.declared.Reply.TheVariants.{Refused}
 use Rattle.sdb_model.specs.declared.Task.{Task}
-use Rattle.sdb_model.specs.declared.Task.TheVariants.{Import, Read, Root}
+use Rattle.sdb_model.specs.declared.Task.TheVariants.{Import, Read, Next, List as Listing, Root}
 use Rattle.sdb_script.specs.Grammar.{line_of}
 use Rattle.sdb_script.specs.Texts.{reply_text}
 use Rattle.sdb_script.specs.declared.Line.{Line}
 use Rattle.sdb_script.specs.declared.Line.TheVariants as lines
 use Rattle.sdb_script.specs.declared.LineReply.{LineReply}
 use Rattle.sdb_script.specs.declared.LineReply.TheVariants as replies
-use Rattle.sdb_serve.specs.Jobs.{after_import, import_reply, read_reply, root_reply}
+use Rattle.sdb_serve.specs.Jobs.{after_import, import_reply, list_reply, next_reply, read_reply, root_reply}
 
 -- what is known after some lines
 pub record SessionState : Type 0 where
@@ -29,21 +31,26 @@ abbrev pub first_session : SessionState
 first_session = record { begun = false; window = 0; blocks = []; read = 0 }
 
 -- one job: its reply, and the blocks after it
-abbrev pub answer_job : List Block → Task → Option (Reply × List Block)
-answer_job blocks (Read id key) = Some (read_reply (state_of blocks id) key, blocks)
-answer_job blocks (Root id) = Some (root_reply (state_of blocks id), blocks)
-answer_job blocks (Import b) = option_map (λ reply. (reply, after_import blocks b reply)) (import_reply blocks b)
+abbrev pub answer_job : List Block → Task → Reply × List Block
+answer_job blocks (Read id key) = (read_reply (state_of blocks id) key, blocks)
+answer_job blocks (Next id key) = (next_reply (state_of blocks id) key, blocks)
+answer_job blocks (Listing id prefix) = (list_reply (state_of blocks id) prefix, blocks)
+answer_job blocks (Root id) = (root_reply (state_of blocks id), blocks)
+answer_job blocks (Import b) = let reply = import_reply blocks b in (reply, after_import blocks b reply)
 
--- A line's reply, and what is known after it; none where the line may not be here: the first line that is
--- neither empty nor a comment is `new`, the second `genesis`, and no later line is either.
+-- A line's reply, and what is known after it; none where the line may not be here: the first line that is neither
+-- empty nor a comment is `new`, and no later one is. A job before genesis is refused, and so is a second genesis.
 unfoldable pub answer : SessionState → Line → Option (Option LineReply × SessionState)
 answer s lines.Blank = Some (None, s)
 answer s (lines.New base) = if s.begun then None else Some (Some replies.New, record s { begun = true })
 answer s (lines.Genesis window b) =
-    if s.begun && (length s.blocks == 0) then Some (Some replies.Genesis, record s { window = window; blocks = b ∷ [] }) else None
+    if not s.begun then None
+    else if length s.blocks == 0 then Some (Some replies.Genesis, record s { window = window; blocks = b ∷ [] })
+    else Some (Some (replies.Refused HasGenesis), s)
 answer s (lines.Job task) =
-    if length s.blocks == 0 then None
-    else option_map (λ a. (Some (replies.Job a.0), record s { blocks = a.1 })) (answer_job s.blocks task)
+    if not s.begun then None
+    else if length s.blocks == 0 then Some (Some (replies.Job (Refused NoGenesis)), s)
+    else let a = answer_job s.blocks task in Some (Some (replies.Job a.0), record s { blocks = a.1 })
 
 -- the line of a reply, one piece for the sink; no reply has none
 abbrev pub reply_lines : Option LineReply → List (List ℕ)

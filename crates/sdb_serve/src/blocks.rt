@@ -2,7 +2,7 @@ ghost use Rattle.std.specs.Prelude.{◌≡◌, ◌↔◌, List, [], ◌∷◌, s
 ghost use Rattle.sdb_base.specs.declared.Block.{Block};
 ghost use Rattle.sdb_model.specs.Blocks.{state_of};
 ghost use Rattle.sdb_model.specs.Limits.{ChangeIsWithin};
-ghost use Rattle.sdb_serve.specs.Jobs.{blocks_after, import_reply, read_reply, root_reply};
+ghost use Rattle.sdb_serve.specs.Jobs.{after_import, import_reply, list_reply, next_reply, read_reply, root_reply};
 
 use crate::state_map::StateMap;
 use sdb_base::{Block, BlockId, Bytes, OutOfMemory, TryCopy};
@@ -77,6 +77,31 @@ impl BlockMap {
         }
     }
 
+    /// The reply to a search for the least key above a key in a block's state.
+    pub(crate) fn next(&self, id: &BlockId, key: &Bytes) -> Result<Reply, OutOfMemory>
+        ensures { (blocks : List Block) → RepresentsBlocks self.now blocks
+            → IfOk result (λ reply. reply ≡ next_reply (state_of blocks id.now) key.now) }
+    {
+        let Some(block) = self.blocks.get(id) else {
+            return Ok(Reply::Refused(Refusal::UnknownBlock));
+        };
+        match block.state.next(self.alloc, key)? {
+            Some(next) => Ok(Reply::Key(next)),
+            None => Ok(Reply::Nothing),
+        }
+    }
+
+    /// The reply that lists the keys with a prefix in a block's state.
+    pub(crate) fn list(&self, id: &BlockId, prefix: &Bytes) -> Result<Reply, OutOfMemory>
+        ensures { (blocks : List Block) → RepresentsBlocks self.now blocks
+            → IfOk result (λ reply. reply ≡ list_reply (state_of blocks id.now) prefix.now) }
+    {
+        match self.blocks.get(id) {
+            Some(entry) => Ok(Reply::Listed(entry.state.keys_with(self.alloc, prefix)?)),
+            None => Ok(Reply::Refused(Refusal::UnknownBlock)),
+        }
+    }
+
     /// The reply that is the root of a block's state.
     pub(crate) fn root(&self, id: &BlockId) -> Result<Reply, OutOfMemory>
         ensures { (blocks : List Block) → RepresentsBlocks self.now blocks
@@ -88,32 +113,32 @@ impl BlockMap {
         }
     }
 
-    /// The reply to an import of a block, which is then accepted unless it is refused; none where its number has as
-    /// many blocks as it may have. An `Err` leaves the blocks as they were.
-    pub(crate) fn import(&mut self, block: Block) -> Result<Option<Reply>, OutOfMemory>
+    /// The reply to an import of a block, which is then accepted unless it is refused. An `Err` leaves the blocks as
+    /// they were.
+    pub(crate) fn import(&mut self, block: Block) -> Result<Reply, OutOfMemory>
         requires { All ChangeIsWithin block.changes }
         ensures answer { (blocks : List Block) → RepresentsBlocks self.old blocks
             → IfOk result (λ reply. reply ≡ import_reply blocks block) }
         ensures after { (blocks : List Block) → RepresentsBlocks self.old blocks
-            → IfOk result (λ reply. RepresentsBlocks self.new (blocks_after blocks block reply)) }
+            → IfOk result (λ reply. RepresentsBlocks self.new (after_import blocks block reply)) }
         ensures err { (blocks : List Block) → RepresentsBlocks self.old blocks
             → OnErr result (RepresentsBlocks self.new blocks) }
     {
         let Some(parent) = self.blocks.get(&block.parent) else {
-            return Ok(Some(Reply::Refused(Refusal::UnknownParent)));
+            return Ok(Reply::Refused(Refusal::UnknownParent));
         };
         if self.blocks.contains_key(&block.id) {
-            return Ok(Some(Reply::Refused(Refusal::AlreadyExists)));
+            return Ok(Reply::Refused(Refusal::AlreadyExists));
         }
         // there are more levels than this number, so that the sum is exact
         let number = parent.number.saturating_add(1);
         let siblings = self.siblings_at(number);
         if siblings >= MOST_SIBLINGS {
-            return Ok(None);
+            return Ok(Reply::Refused(Refusal::TooManySiblings { number }));
         }
         let state = parent.state.with_changes(block.changes)?;
         self.add_entry(block.id, BlockEntry { number, state }, siblings + 1)?;
-        Ok(Some(Reply::Imported(number)))
+        Ok(Reply::Imported(number))
     }
 
     /// How many blocks have a number.

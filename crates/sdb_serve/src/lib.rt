@@ -24,6 +24,3 @@ pub use cause::Cause;
 pub use entry::run;
 pub use laws::{a_script_has_its_most_bytes, first_bad_line_is_one, known_ends};
 pub use status::Status;
-
-#[cfg(test)]
-mod tests;

@@ -9,7 +9,8 @@ ghost use Rattle.sdb_serve.specs.inner.Pieces.{as_piece};
 ghost use Rattle.sdb_serve.specs.declared.session.PlayFault.TheVariants.{NotAnswered, OutOfMemory};
 
 use crate::blocks::BlockMap;
-use sdb_model::{Reply, Task};
+use sdb_base::OutOfMemory;
+use sdb_model::{Refusal, Reply, Task};
 use sdb_script::{Line, LineFault, LineReply, parse_line, reply_text};
 use std::alloc::{AllocError, AllocFailed, Global};
 
@@ -83,20 +84,17 @@ fn write_reply(
     Ok(())
 }
 
-fn answer_job(blocks: &mut BlockMap, task: Task) -> Result<Reply, PlayFault>
+fn answer_job(blocks: &mut BlockMap, task: Task) -> Result<Reply, OutOfMemory>
     requires { IsWithin (lines.Job task) }
-    ensures answer { (all : List Block) → RepresentsBlocks blocks.old all → IfOk result (λ reply. (after : List Block)
-        × (answer_job all task ≡ Some (reply, after)) × RepresentsBlocks blocks.new after) }
-    ensures refused { (all : List Block) → RepresentsBlocks blocks.old all
-        → IsErrOf result PlayFault.NotAnswered → answer_job all task ≡ None }
+    ensures { (all : List Block) → RepresentsBlocks blocks.old all
+        → IfOk result (λ reply. (reply ≡ (answer_job all task).0) × RepresentsBlocks blocks.new (answer_job all task).1) }
 {
     match task {
-        Task::Read { id, key } => Ok(blocks.read(&id, &key)?),
-        Task::Root { id } => Ok(blocks.root(&id)?),
-        Task::Import(block) => match blocks.import(block)? {
-            Some(reply) => Ok(reply),
-            None => Err(PlayFault::NotAnswered),
-        },
+        Task::Read { id, key } => blocks.read(&id, &key),
+        Task::Next { id, key } => blocks.next(&id, &key),
+        Task::List { id, prefix } => blocks.list(&id, &prefix),
+        Task::Root { id } => blocks.root(&id),
+        Task::Import(block) => blocks.import(block),
     }
 }
 
@@ -149,15 +147,18 @@ impl Session {
                     return Err(PlayFault::NotAnswered);
                 }
                 if !self.blocks.is_empty() {
-                    return Err(PlayFault::NotAnswered);
+                    return Ok(Some(LineReply::Refused(Refusal::HasGenesis)));
                 }
                 self.blocks.genesis(block)?;
                 self.window = window;
                 Ok(Some(LineReply::Genesis))
             }
             Line::Job { task } => {
-                if self.blocks.is_empty() {
+                if !self.begun {
                     return Err(PlayFault::NotAnswered);
+                }
+                if self.blocks.is_empty() {
+                    return Ok(Some(LineReply::Job(Reply::Refused(Refusal::NoGenesis))));
                 }
                 let reply = answer_job(&mut self.blocks, task)?;
                 Ok(Some(LineReply::Job(reply)))

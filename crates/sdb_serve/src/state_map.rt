@@ -4,9 +4,10 @@ ghost use Rattle.std.specs.Option.{option_copied};
 ghost use Rattle.sdb_model.specs.State.{apply, no_keys, with_key};
 ghost use Rattle.sdb_model.specs.Trie.{trie_root};
 ghost use Rattle.sdb_model.specs.Limits.{ChangeIsWithin};
+ghost use Rattle.trie_model.specs.Fetches.{keys_with_prefix, next_key};
 ghost use Rattle.trie_root.specs.Pairs.{KeysRise, entries_of};
 
-use sdb_base::{Bytes, Change, Changes, NodeHash, OutOfMemory, Pair, Pairs, TryCopy};
+use sdb_base::{Bytes, Change, Changes, Keys, NodeHash, OutOfMemory, Pair, Pairs, TryCopy};
 use std::alloc::Global;
 use std::collections::BTreeMap;
 use std::marker::Model;
@@ -49,6 +50,20 @@ impl StateMap {
         ensures { option_copied result ≡ map.get self.now key.now }
     {
         self.entries.get(key)
+    }
+
+    /// The least key above a key.
+    pub(crate) fn next(&self, alloc: Global, key: &Bytes) -> Result<Option<Bytes>, OutOfMemory>
+        ensures { IfOk result (λ next. next ≡ next_key self.now key.now) }
+    {
+        key_above(alloc, &self.entries, key)
+    }
+
+    /// The keys that begin with a prefix, rising.
+    pub(crate) fn keys_with(&self, alloc: Global, prefix: &Bytes) -> Result<Keys, OutOfMemory>
+        ensures { IfOk result (λ keys. keys ≡ keys_with_prefix self.now prefix.now) }
+    {
+        keys_beginning(alloc, &self.entries, prefix)
     }
 
     /// Sets the key of a change to its value, or deletes it. An `Err` changes nothing.
@@ -102,4 +117,37 @@ fn pairs_of(alloc: Global, entries: &BTreeMap<Bytes, Bytes>) -> Result<Pairs, Ou
         })?;
     }
     Ok(pairs)
+}
+
+// The first key in order that is above a key.
+fn key_above(
+    alloc: Global,
+    entries: &BTreeMap<Bytes, Bytes>,
+    key: &Bytes,
+) -> Result<Option<Bytes>, OutOfMemory>
+    ensures { IfOk result (λ next. next ≡ next_key (map.from_entries entries.now.entries) key.now) }
+{
+    for (later, _) in entries.iter() {
+        if key < later {
+            return Ok(Some(later.copy(alloc)?));
+        }
+    }
+    Ok(None)
+}
+
+// The keys in order that begin with a prefix.
+fn keys_beginning(
+    alloc: Global,
+    entries: &BTreeMap<Bytes, Bytes>,
+    prefix: &Bytes,
+) -> Result<Keys, OutOfMemory>
+    ensures { IfOk result (λ keys. keys ≡ keys_with_prefix (map.from_entries entries.now.entries) prefix.now) }
+{
+    let mut keys = Keys::new(alloc);
+    for (key, _) in entries.iter() {
+        if key.as_slice().starts_with(prefix.as_slice()) {
+            keys.push(key.copy(alloc)?)?;
+        }
+    }
+    Ok(keys)
 }

@@ -7,8 +7,8 @@ pub enum Status {
     Done,
     /// 2: the words aren't the one word `script`.
     Usage,
-    /// 3: a line isn't in the grammar, may not be where it is, is too long or isn't ended, would give a number
-    /// its 33rd block, or takes the script past 2^40 bytes.
+    /// 3: a line isn't in the grammar, may not be where it is, is too long or isn't ended, or takes the script past
+    /// 2^40 bytes.
     Script,
     /// 4: the source failed.
     SourceFault,

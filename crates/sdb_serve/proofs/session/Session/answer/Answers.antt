@@ -1,6 +1,6 @@
 use Rattle.std.proofs.Common.{◌≡◌, sym, ◌∙◌, refl, true, [], ◌∷◌}
-use Rattle.std.proofs.lemmas.Result.{err_from_is_err_and}
-use Rattle.sdb_serve.proofs.Answering.{blank, genesis_again, genesis_early, genesis_first, job_early, job_is, job_none, new_again, new_first, no_test}
+use Rattle.sdb_serve.proofs.Answering.{blank, genesis_again, genesis_early, genesis_first, job_early, job_is, job_without_genesis, new_again, new_first, no_test}
+use Rattle.sdb_serve.specs.Session.{answer_job}
 use Rattle.sdb_serve.proofs.session.Session.answer.Goals as goal
 
 pub returns-then-self-clause-refused : goal.returns-then-self-clause-refused
@@ -19,9 +19,12 @@ returns-else-self-clause-answer c = λ s h. (
 pub returns-then-not-self-clause-refused : goal.returns-then-not-self-clause-refused
 returns-then-not-self-clause-refused c = λ s h _. rw c.in-Genesis.is (genesis_early s _ _ (sym h.begun ∙ c.if-not-self.true))
 
-pub returns-then-not-is_empty-clause-refused : goal.returns-then-not-is_empty-clause-refused
-returns-then-not-is_empty-clause-refused c = λ s h _.
-    rw c.in-Genesis.is (genesis_again s _ _ (sym h.begun ∙ c.if-not-self.false) (λ e. no_test ((c.if-not-is_empty.ensures s.blocks h.blocks).1 e)))
+pub returns-then-not-is_empty-clause-answer : goal.returns-then-not-is_empty-clause-answer
+returns-then-not-is_empty-clause-answer c = λ s h. (
+  s,
+  rw c.in-Genesis.is (genesis_again s _ _ (sym h.begun ∙ c.if-not-self.false) (λ e. no_test ((c.if-not-is_empty.ensures s.blocks h.blocks).1 e))),
+  h,
+)
 
 pub returns-in_ok-genesis-in-Genesis-clause-answer : goal.returns-in_ok-genesis-in-Genesis-clause-answer
 returns-in_ok-genesis-in-Genesis-clause-answer c = λ s h.
@@ -31,19 +34,20 @@ returns-in_ok-genesis-in-Genesis-clause-answer c = λ s h.
       record { begun = h.begun; window = refl; read = h.read; blocks = c.in_ok-genesis-in-Genesis.ensures.ok (rw none at h.blocks) },
     )
 
-pub returns-then-is_empty-clause-refused : goal.returns-then-is_empty-clause-refused
-returns-then-is_empty-clause-refused c = λ s h _. rw c.in-Job.is (job_early s _ ((c.if-is_empty.ensures s.blocks h.blocks).0 refl))
+pub returns-then-not-self-2-clause-refused : goal.returns-then-not-self-2-clause-refused
+returns-then-not-self-2-clause-refused c = λ s h _. rw c.in-Job.is (job_early s _ (sym h.begun ∙ c.if-not-self-2.true))
+
+pub returns-then-is_empty-clause-answer : goal.returns-then-is_empty-clause-answer
+returns-then-is_empty-clause-answer c = λ s h. (
+  s,
+  rw c.in-Job.is (job_without_genesis s _ (sym h.begun ∙ c.if-not-self-2.false) ((c.if-is_empty.ensures s.blocks h.blocks).0 refl)),
+  h,
+)
 
 pub returns-in_ok-reply-in-Job-clause-answer : goal.returns-in_ok-reply-in-Job-clause-answer
 returns-in_ok-reply-in-Job-clause-answer c = λ s h.
-    let a = c.in_ok-reply-in-Job.ensures.answer s.blocks h.blocks in (
-      record s { blocks = a.0 },
-      rw c.in-Job.is (job_is s _ _ a.0 (λ e. no_test ((c.if-is_empty.ensures s.blocks h.blocks).1 e)) a.1),
-      record { begun = h.begun; window = h.window; read = h.read; blocks = a.2 },
+    let a = c.in_ok-reply-in-Job.ensures s.blocks h.blocks in (
+      record s { blocks = (answer_job s.blocks c.in-Job.task).1 },
+      rw c.in-Job.is (job_is s _ _ (sym h.begun ∙ c.if-not-self-2.false) (λ e. no_test ((c.if-is_empty.ensures s.blocks h.blocks).1 e)) a.0),
+      record { begun = h.begun; window = h.window; read = h.read; blocks = a.1 },
     )
-
-pub returns-in_err-reply-in-Job-clause-refused : goal.returns-in_err-reply-in-Job-clause-refused
-returns-in_err-reply-in-Job-clause-refused c =
-    let p = err_from_is_err_and c.from_residual-in_err-reply-in-Job.result c.from_residual-in_err-reply-in-Job.ensures.1 in
-    rw (p.1, p.2) (λ s h e.
-    rw c.in-Job.is (job_none s _ (λ f. no_test ((c.if-is_empty.ensures s.blocks h.blocks).1 f)) (c.in_err-reply-in-Job.ensures.refused s.blocks h.blocks cc)))

@@ -2,16 +2,16 @@ ghost use Rattle.std.specs.Prelude.{◌≡◌, ◌≤◌, length, is_err, IfOk};
 ghost use Rattle.sdb_io.specs.Faults.{CountsFault};
 ghost use Rattle.sdb_io.specs.Memory.{failed_takes};
 
-use super::*;
 use sdb_base::{Bytes, Words};
 use sdb_io::{MemSink, MemSource, Source, SourceFault};
+use sdb_serve::{Status, run};
 use std::alloc::{AllocError, Global};
 use std::test::*;
 
 // In the tables a bar ends a line.
 
 // Scripts that are answered to their end, and their replies.
-const ANSWERED: [(&str, &str); 14] = [
+const ANSWERED: [(&str, &str); 20] = [
     ("", ""),
     (
         "new 0|genesis 01 4 aa=01 bb=07|import 02 01 aa=02|import 03 01 aa=03|read 02 aa|read 03 aa|read 01 aa|read 02 bb|",
@@ -72,10 +72,40 @@ const ANSWERED: [(&str, &str); 14] = [
         "new 0|genesis 01 4 aa=-|import 02 01 aa=ababababababababababababababababababababababababababababab ab=cdcdcdcdcdcdcdcdcdcdcdcdcdcdcdcdcdcdcdcdcdcdcdcdcdcdcdcdcdcd|root 01|root 02|",
         "new|genesis|import 1|root 99bd6135a0892dc2efc5b792adb3280c24dcf8dde8290f64faa78cbeb86996a9|root 376fa5c51f83f54e94cb4b89cf2be4d9d0ae795444a502edc7bf6b84d34738c5|",
     ),
+    // the least key above, and the keys with a prefix
+    (
+        "new 0|genesis 01 256 aa=01 aabb=02|next 01 -|next 01 aa|next 01 aabb|list 01 aa|",
+        "new|genesis|next aa|next aabb|none|list aa aabb|",
+    ),
+    // from before the first key, between two, past the last, and by prefixes at, within and behind keys
+    (
+        "new 0|genesis 01 4 aa=01 aabb=02 ac=03|next 01 00|next 01 aaaa|next 01 aabb|next 01 aabc|next 01 ad|list 01 -|list 01 aabb|list 01 aabbcc|list 01 ab|next 02 aa|list 02 -|",
+        "new|genesis|next aa|next aabb|next ac|next ac|none|list aa aabb ac|list aabb|list|list|refused 1 UnknownBlock|refused 1 UnknownBlock|",
+    ),
+    // the empty key, and a state without keys
+    (
+        "new 0|genesis 01 4 00=02 -=01|next 01 -|list 01 -|list 01 00|import 02 01 -! 00!|next 02 -|list 02 -|",
+        "new|genesis|next 00|list - 00|list 00|import 1|none|list|",
+    ),
+    // each block has its own keys
+    (
+        "new 0|genesis 01 4 aa=01|import 02 01 aa! bb=02|import 03 01 ab=03|next 01 -|next 02 -|next 03 aa|list 01 -|list 02 -|list 03 -|",
+        "new|genesis|import 1|import 1|next aa|next bb|next ab|list aa|list bb|list aa ab|",
+    ),
+    // each job before genesis, and genesis again, with another id and with its own
+    (
+        "new 0|import 02 01|read 01 aa|next 01 aa|list 01 -|root 01|genesis 01 4 aa=01|genesis 02 4 aa=02|genesis 01 4|read 01 aa|read 02 aa|",
+        "new|refused 10 NoGenesis|refused 10 NoGenesis|refused 10 NoGenesis|refused 10 NoGenesis|refused 10 NoGenesis|genesis|refused 9 HasGenesis|refused 9 HasGenesis|value 01|refused 1 UnknownBlock|",
+    ),
+    // no parent and an id that exists at once
+    (
+        "new 0|genesis 01 4|import 01 09|import 01 01|",
+        "new|genesis|refused 4 UnknownParent|refused 3 AlreadyExists|",
+    ),
 ];
 
 // Scripts that stop at a bad line, and what is written up to it.
-const STOPPED: [(&str, &str); 12] = [
+const STOPPED: [(&str, &str); 10] = [
     // the last line has no line feed
     ("new 0|genesis 01 4", "new|stop 3 line 2|"),
     // comments and empty lines are counted
@@ -84,20 +114,15 @@ const STOPPED: [(&str, &str); 12] = [
         "new|genesis|stop 3 line 7|",
     ),
     // lines that may not be where they are
-    ("new 0|read 01 aa|", "new|stop 3 line 2|"),
-    ("new 0|root 01|", "new|stop 3 line 2|"),
     (
         "new 0|genesis 01 4|root 01 aa|",
         "new|genesis|stop 3 line 3|",
     ),
     ("new 0|genesis 01 4|new 0|", "new|genesis|stop 3 line 3|"),
-    (
-        "new 0|genesis 01 4|genesis 02 4|",
-        "new|genesis|stop 3 line 3|",
-    ),
     ("genesis 01 4|", "stop 3 line 1|"),
+    ("read 01 aa|", "stop 3 line 1|"),
+    ("import 02 01|", "stop 3 line 1|"),
     ("new 0|new 0|genesis 01 4|", "new|stop 3 line 2|"),
-    ("new 0|import 02 01|", "new|stop 3 line 2|"),
     // words that begin no line
     ("open|", "stop 3 line 1|"),
     ("new 0|genesis 01 4|canon 01|", "new|genesis|stop 3 line 3|"),
@@ -126,7 +151,7 @@ const FAULTS: [(Option<u64>, Option<u64>, &[&str], &str, u8, &str); 5] = [
     (None, Some(0), &["-h"], "", 5, ""),
     // both fail: the source, and the sink at the last line for it
     (Some(1), Some(1), &["script"], "new 0|", 5, "new|"),
-    (None, Some(1), &["script"], "new 0|read 01 aa|", 5, "new|"),
+    (None, Some(1), &["script"], "new 0|new 0|", 5, "new|"),
 ];
 
 // The bytes of a text, with a line feed for each bar.
@@ -223,16 +248,17 @@ fn a_number_has_at_most_32_blocks(rt: HostRuntime) -> Result<(), Fail> {
             let reply = format!(in alloc; "import {number}\n")?;
             want.extend_from_slice(reply.as_bytes())?;
         }
-        // both refusals come before the limit
-        let last = format!(in alloc; "import 22 99\nimport 05 {parent}\nimport 22 {parent}\n")?;
-        script.extend_from_slice(last.as_bytes())?;
-        let stop = format!(in alloc;
-            "refused 4 UnknownParent\nrefused 3 AlreadyExists\nstop 3 line {}\n",
-            number + 36
+        // the other refusals come before the limit, and what it refuses is not accepted
+        let last = format!(in alloc;
+            "import 22 99\nimport 05 {parent}\nimport 22 {parent}\nroot 22\n"
         )?;
-        want.extend_from_slice(stop.as_bytes())?;
+        script.extend_from_slice(last.as_bytes())?;
+        let refused = format!(in alloc;
+            "refused 4 UnknownParent\nrefused 3 AlreadyExists\nrefused 6 TooManySiblings {number}\nrefused 1 UnknownBlock\n"
+        )?;
+        want.extend_from_slice(refused.as_bytes())?;
         let (code, written) = outcome(alloc, &["script"], &script, None, None)?;
-        assert_eq!(rt; code, 3, "{before}");
+        assert_eq!(rt; code, 0, "{before}");
         assert_eq!(rt; written, want, "{before}");
     }
     Ok(())
