@@ -11,23 +11,16 @@ use Rattle.trie_model.specs.Trie.{Suffix, below, common, common_prefix, with_pre
 use Rattle.trie_root.proofs.Ends.{common_of_ends}
 use Rattle.trie_root.proofs.Prefixes.{Begins, below-append, begins_both, begins_itself, without}
 use Rattle.trie_root.proofs.ReadOff.{with_prefix-below}
-use Rattle.trie_root.proofs.ReadOffOrder.{is_sorted-nibble}
 use Rattle.trie_root.proofs.ShapesBytes.{all_joined}
-use Rattle.trie_read.proofs.Hanging.{below-nil}
 use Rattle.trie_read.proofs.OneFed.{all_split}
 use Rattle.trie_change.specs.Frontier.{IsItem, suffixes_for}
 use Rattle.trie_change.specs.declared.frontier.Item.{Item}
 use Rattle.trie_change.specs.declared.frontier.Item.TheVariants as item
 use Rattle.trie_change.specs.inner.Built.{GoesOnFrom, IsHere, IsPastPath, ItemBefore, ItemBranch, ItemGroup, ItemsRise, PathBefore, item_path}
-use Rattle.trie_change.proofs.FedNodes.{ended}
 use Rattle.trie_change.proofs.ItemPaths.{before_after, by_paths, common_before, drop_itself, goes_further, is_key, second_goes_on, shared_before, stub_goes_on}
 use Rattle.trie_change.proofs.ItemSuffixes.{AllGoOn, prefixes_joined, without_with}
 use Rattle.trie_change.proofs.LoneStubs.{stub_is_here}
-
-pub sorted_below : (p : List ℕ) (ss : List Suffix) → T (is_sorted (slice_cmp nat_cmp) ss) → T (is_sorted (slice_cmp nat_cmp) (below p ss))
-sorted_below [] ss s = subst (λ (ts : List Suffix). T (is_sorted (slice_cmp nat_cmp) ts)) (sym (below-nil ss)) s
-sorted_below (x ∷ p) ss s =
-    subst (λ (ts : List Suffix). T (is_sorted (slice_cmp nat_cmp) ts)) (sym (below-append (x ∷ []) p ss)) (sorted_below p (below (x ∷ []) ss) (is_sorted-nibble x ss s))
+use Rattle.trie_change.proofs.ItemEnds.{FirstOf, LastOf, first_of, last_of, sorted_below}
 
 -- the first and the last of some items, which may be one
 abbrev pub AreEnds : List Item → Item → Item → Type 0
@@ -78,58 +71,6 @@ past_of q (item.Stub s) g some = by_rest (drop (length q) s.path.items) g (some 
     by_rest : (r : List ℕ) → s.path.items ≡ q ++ r → (r ≡ [] → ⊥) → (n : ℕ) × (ns : List ℕ) × (s.path.items ≡ q ++ n ∷ ns)
     by_rest [] e some = absurd (some refl)
     by_rest (n ∷ ns) e some = (n, ns, e)
-
--- the first suffix of an item, and its last
-pub record FirstOf (ss : List Suffix) (i : Item) : Type 0 where
-  pub rest : List ℕ
-  pub value : List ℕ
-  pub others : List Suffix
-  pub is : suffixes_for ss i ≡ (item_path i ++ rest, value) ∷ others
-  pub ends : is_key i ≡ true → rest ≡ []
-
-record LastOf (ss : List Suffix) (i : Item) : Type 0 where
-  rest : List ℕ
-  value : List ℕ
-  others : List Suffix
-  is : suffixes_for ss i ≡ others ++ (item_path i ++ rest, value) ∷ []
-
--- where a stub goes on with a path, some suffixes do
-pub some_below : (ss : List Suffix) (q : List ℕ) (i : Item) → IsItem ss i → IsPastPath q i → is_key i ≡ false → below (item_path i) ss ≡ [] → ⊥
-some_below ss q (item.Entry e) h p k none = let no : true ≡ false = k in cc
-some_below ss q (item.Stub s) h p k none = elim h.some [
-  | inl root ↦ longer q p.0 p.1 (sym p.2 ∙ root)
-  | inr some ↦ some none
-]
-  where
-    longer : (q : List ℕ) (n : ℕ) (ns : List ℕ) → q ++ n ∷ ns ≡ [] → ⊥
-    longer [] n ns e = cc
-    longer (x ∷ q) n ns e = cc
-
-pub first_of : (ss : List Suffix) (q : List ℕ) (i : Item) → IsItem ss i → IsPastPath q i → FirstOf ss i
-first_of ss q (item.Entry e) h p = record { rest = []; value = e.value; others = []; is = ap (λ (t : List ℕ). (t, e.value) ∷ []) (sym (append-nil e.path.items)); ends = λ k. refl }
-first_of ss q (item.Stub s) h p = by_list (below s.path.items ss) refl
-  where
-    by_list : (us : List Suffix) → below s.path.items ss ≡ us → FirstOf ss (item.Stub s)
-    by_list [] e = absurd (some_below ss q (item.Stub s) h p refl e)
-    by_list (u ∷ us) e = record {
-      rest = u.0;
-      value = u.1;
-      others = with_prefix s.path.items us;
-      is = ap (with_prefix s.path.items) e;
-      ends = λ k. let no : false ≡ true = k in cc;
-    }
-
-last_of : (ss : List Suffix) (q : List ℕ) (i : Item) → IsItem ss i → IsPastPath q i → LastOf ss i
-last_of ss q (item.Entry e) h p = record { rest = []; value = e.value; others = []; is = ap (λ (t : List ℕ). (t, e.value) ∷ []) (sym (append-nil e.path.items)) }
-last_of ss q (item.Stub s) h p = elim (ended (below s.path.items ss)) [
-  | inl none ↦ absurd (some_below ss q (item.Stub s) h p refl none)
-  | inr l ↦ record {
-    rest = l.1.0;
-    value = l.1.1;
-    others = with_prefix s.path.items l.0;
-    is = ap (with_prefix s.path.items) l.2 ∙ map-append (λ (t : Suffix). (s.path.items ++ t.0, t.1)) l.0 (l.1 ∷ []);
-  }
-]
 
 module _ (at : ℕ) (first last : Item) (between : List Item) (g : ItemGroup at (first ∷ (between ++ last ∷ []))) (r : ItemsRise (first ∷ (between ++ last ∷ []))) where
   abbrev p : List ℕ
