@@ -7,7 +7,8 @@ use Rattle.trie_model.specs.Nodes.{PathNode, has_node, nodes_without}
 use Rattle.trie_read.proofs.Rising.{LowerThan, Rises, all_weaker}
 use Rattle.trie_change.specs.inner.Diffs.{Comparison, after_node, after_nodes, all_dropped, all_left, passed}
 use Rattle.trie_change.proofs.LowerNodes.{all_reversed, all_without, none_above, reversed, reversed_falls}
-use Rattle.trie_change.proofs.MetNodes.{Below, Compares, meets, passes}
+use Rattle.trie_change.proofs.MetNodes.{meets}
+use Rattle.trie_change.proofs.OldAbove.{Below, Compares, passes}
 
 pub compares_first : (old : List PathNode) → Rises old → Compares old [] (all_left old)
 compares_first old r = record {

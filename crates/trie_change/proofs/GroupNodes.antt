@@ -28,7 +28,7 @@ use Rattle.trie_change.specs.inner.Built.{IsPastPath, ItemGroup, is_made, item_p
 use Rattle.trie_change.proofs.ItemPaths.{drop_itself}
 use Rattle.trie_change.proofs.ItemSuffixes.{without_with}
 use Rattle.trie_change.proofs.ItemEnds.{some_below, sorted_below}
-use Rattle.trie_change.proofs.Parting.{Parts}
+use Rattle.trie_change.proofs.ItemsParted.{Parts}
 
 -- ---- the value of the node
 

@@ -7,6 +7,7 @@ pub mod Deeper
 pub mod Idle
 pub mod Superseded
 pub mod LowerNodes
+pub mod OldAbove
 pub mod MetNodes
 pub mod Compared
 pub mod FedNodes
@@ -19,6 +20,7 @@ pub mod ItemPaths
 pub mod ItemSuffixes
 pub mod LoneStubs
 pub mod ItemEnds
+pub mod ItemsParted
 pub mod Parting
 pub mod GroupNodes
 pub mod ChildGroups

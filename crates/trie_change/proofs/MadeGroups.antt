@@ -20,7 +20,8 @@ use Rattle.trie_change.proofs.ChildRuns.{in_the_middle}
 use Rattle.trie_change.proofs.FedNodes.{ended}
 use Rattle.trie_change.proofs.GroupNodes.{made_parts, parts_of_node, value_of_first}
 use Rattle.trie_change.proofs.ItemPaths.{drop_itself}
-use Rattle.trie_change.proofs.Parting.{AreEnds, Parts, branch_at, parts_of, shared_by}
+use Rattle.trie_change.proofs.ItemsParted.{AreEnds, Parts, shared_by}
+use Rattle.trie_change.proofs.Parting.{branch_at, parts_of}
 
 -- ---- the ends of a group
 

@@ -19,7 +19,7 @@ use Rattle.trie_change.specs.inner.Built.{GoesOnFrom, ItemGroup, is_made, made_o
 use Rattle.trie_change.specs.inner.Diffs.{after_nodes, all_dropped, all_left}
 use Rattle.trie_change.specs.inner.Settled.{IsSettled}
 use Rattle.trie_change.proofs.Compared.{all_compared, drops_at_end}
-use Rattle.trie_change.proofs.MetNodes.{Compares}
+use Rattle.trie_change.proofs.OldAbove.{Compares}
 use Rattle.trie_change.proofs.Found.{has_it}
 use Rattle.trie_change.proofs.FrontierRises.{frontier_rises}
 use Rattle.trie_change.proofs.LowerNodes.{is_node, kept_alike}

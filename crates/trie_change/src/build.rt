@@ -1,4 +1,4 @@
-ghost use Rattle.std.specs.Prelude.{◌≡◌, ◌≢◌, ℕ, suc, ◌+◌, ◌-◌, ◌<◌, ◌≤◌, List, [], ◌∷◌, All, IfOk, IfSome, OnOk, drop, filter, length, slice_index_or, take, true, false};
+ghost use Rattle.std.specs.Prelude.{◌≡◌, ◌≢◌, suc, ◌+◌, ◌-◌, ◌<◌, ◌≤◌, List, [], All, IfOk, IfSome, OnOk, drop, filter, length, slice_index_or, take, true, false};
 ghost use Rattle.sdb_blake2.specs.Blake2b.{H};
 ghost use Rattle.trie_model.specs.Node.{merkle_value, spelling};
 ghost use Rattle.trie_model.specs.Nodes.{PathNode};
