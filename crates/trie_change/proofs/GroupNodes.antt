@@ -27,7 +27,8 @@ use Rattle.trie_change.specs.declared.frontier.Item.TheVariants as item
 use Rattle.trie_change.specs.inner.Built.{IsPastPath, ItemGroup, is_made, item_path, made_of_group, node_of_group, nodes_at, nodes_below, nodes_from, value_after, values_below}
 use Rattle.trie_change.proofs.ItemPaths.{drop_itself}
 use Rattle.trie_change.proofs.ItemSuffixes.{without_with}
-use Rattle.trie_change.proofs.Parting.{Parts, some_below, sorted_below}
+use Rattle.trie_change.proofs.ItemEnds.{some_below, sorted_below}
+use Rattle.trie_change.proofs.ItemsParted.{Parts}
 
 -- ---- the value of the node
 

@@ -18,11 +18,13 @@ use Rattle.trie_change.specs.declared.frontier.Item.{Item}
 use Rattle.trie_change.specs.inner.Built.{GoesOnFrom, ItemGroup, is_made, made_of_group, node_of_group, nodes_from}
 use Rattle.trie_change.specs.inner.Diffs.{after_nodes, all_dropped, all_left}
 use Rattle.trie_change.specs.inner.Settled.{IsSettled}
-use Rattle.trie_change.proofs.Compared.{Compares, all_compared, drops_at_end}
+use Rattle.trie_change.proofs.Compared.{all_compared, drops_at_end}
+use Rattle.trie_change.proofs.OldAbove.{Compares}
 use Rattle.trie_change.proofs.Found.{has_it}
 use Rattle.trie_change.proofs.FrontierRises.{frontier_rises}
 use Rattle.trie_change.proofs.LowerNodes.{is_node, kept_alike}
-use Rattle.trie_change.proofs.SortedNodes.{one_node, rises_from}
+use Rattle.trie_change.proofs.SortedNodes.{one_node}
+use Rattle.trie_change.proofs.NodeEntries.{rises_from}
 
 -- ---- all items are a group
 

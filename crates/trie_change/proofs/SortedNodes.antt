@@ -1,18 +1,14 @@
 -- Nodes that rise by path, sorted by path, are as they were.
-use Rattle.std.proofs.Common.{◌≡◌, ℕ, suc, ◌<◌, ◌≤◌, Bool, true, false, cond, List, [], ◌∷◌, length, get_or, map, T, IsPermutation, refl, ap, ap₂, subst, sym, ◌∙◌, inl, inr, arith}
+use Rattle.std.proofs.Common.{◌≡◌, ℕ, suc, ◌<◌, ◌≤◌, Bool, true, false, cond, List, [], ◌∷◌, length, get_or, T, IsPermutation, refl, ap, ap₂, subst, sym, ◌∙◌, inl, inr, arith}
 use Rattle.std.specs.Prelude.{◌&&◌, filter}
 use Rattle.std.specs.List.{AllByRecursion}
 use Rattle.std.specs.Str.{bytes_eq}
 use Rattle.std.specs.Ordering.{is_lt, nat_cmp}
 use Rattle.std.specs.Cmp.Lexicographic.{slice_cmp}
-use Rattle.std.specs.FinMap.{is_sorted}
-use Rattle.std.proofs.lemmas.Float.{T_from_true}
 use Rattle.std.proofs.lemmas.List.Sorted.{sum_by-IsPermutation}
 use Rattle.std.proofs.lemmas.List.Sums.{length-filter}
 use Rattle.std.proofs.lemmas.Slice.Eq.{bytes_eq-Decides}
 use Rattle.trie_model.specs.Nodes.{PathNode}
-use Rattle.trie_root.proofs.Ends.{below_all, first_of_and, second_of_and}
-use Rattle.trie_root.proofs.Stripped.{and, true_from_T}
 use Rattle.trie_read.specs.Paths.{RiseByPath}
 use Rattle.trie_read.proofs.Among.{Among, among_kept}
 use Rattle.trie_read.proofs.Rising.{LowerThan, Rises}
@@ -20,37 +16,7 @@ use Rattle.trie_change.specs.declared.frontier.Fed.{Fed}
 use Rattle.trie_change.specs.inner.Settled.{fed_nodes}
 use Rattle.trie_change.proofs.FedNodes.{fed_node}
 use Rattle.trie_change.proofs.LowerNodes.{is_node}
-
--- ---- the two ways to say that nodes rise
-
-abbrev as_entry : PathNode → List ℕ × List ℕ
-as_entry n = (n.path, n.bytes)
-
-lower_entries : (p : List ℕ) (ns : List PathNode) → T (below_all p (map as_entry ns)) → LowerThan p ns
-lower_entries p [] b = tt
-lower_entries p (n ∷ ns) b =
-    (first_of_and _ (below_all p (map as_entry ns)) b, lower_entries p ns (second_of_and (is_lt (slice_cmp nat_cmp p n.path)) _ b))
-
-rises_by : (ns : List PathNode) → T (is_sorted (slice_cmp nat_cmp) (map as_entry ns)) → Rises ns
-rises_by [] s = tt
-rises_by (n ∷ ns) s = (
-  lower_entries n.path ns (first_of_and _ (is_sorted (slice_cmp nat_cmp) (map as_entry ns)) s),
-  rises_by ns (second_of_and (below_all n.path (map as_entry ns)) _ s),
-)
-
-pub rises_from : (ns : List PathNode) → RiseByPath ns → Rises ns
-rises_from ns s = rises_by ns (T_from_true _ s)
-
-below_entries : (p : List ℕ) (ns : List PathNode) → LowerThan p ns → T (below_all p (map as_entry ns))
-below_entries p [] a = tt
-below_entries p (n ∷ ns) a = and _ _ a.0 (below_entries p ns a.1)
-
-sorted_entries : (ns : List PathNode) → Rises ns → T (is_sorted (slice_cmp nat_cmp) (map as_entry ns))
-sorted_entries [] a = tt
-sorted_entries (n ∷ ns) a = and _ _ (below_entries n.path ns a.0) (sorted_entries ns a.1)
-
-pub rise_by_path : (ns : List PathNode) → Rises ns → RiseByPath ns
-rise_by_path ns r = true_from_T _ (sorted_entries ns r)
+use Rattle.trie_change.proofs.NodeEntries.{rises_from}
 
 -- ---- each as often in the one as in the other
 

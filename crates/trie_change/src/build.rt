@@ -1,4 +1,4 @@
-ghost use Rattle.std.specs.Prelude.{◌≡◌, ◌≢◌, ℕ, suc, ◌+◌, ◌-◌, ◌<◌, ◌≤◌, List, [], ◌∷◌, All, IfOk, IfSome, OnOk, drop, filter, length, slice_index_or, take, true, false};
+ghost use Rattle.std.specs.Prelude.{◌≡◌, ◌≢◌, suc, ◌+◌, ◌-◌, ◌<◌, ◌≤◌, List, [], All, IfOk, IfSome, OnOk, drop, filter, length, slice_index_or, take, true, false};
 ghost use Rattle.sdb_blake2.specs.Blake2b.{H};
 ghost use Rattle.trie_model.specs.Node.{merkle_value, spelling};
 ghost use Rattle.trie_model.specs.Nodes.{PathNode};
@@ -151,7 +151,9 @@ fn child_of(
     Ok(Some(value))
 }
 
-// The Merkle value of a node below the root, which goes to the comparison if it is new and stored.
+// The Merkle value of a node below the root, which goes to the comparison if it is new and stored. What hashing needs on the
+// stack stays out of the frames of the recursion, which may be 2,049 levels deep.
+#[inline(never)]
 fn merkle_value_of(
     alloc: Global,
     diff: &mut Diff,
@@ -276,7 +278,8 @@ fn value_here(item: &Item, at: usize) -> Option<&[u8]>
     }
 }
 
-// The spelling of the node over items that share what the first has from `at` to `end`.
+// The spelling of the node over items that share what the first has from `at` to `end`; not inlined, as above.
+#[inline(never)]
 fn spell_node(
     alloc: Global,
     first: &Item,

@@ -1,4 +1,4 @@
-ghost use Rattle.std.specs.Prelude.{◌^◌, ◌<◌, ◌≤◌, All, IfOk, IsTrue, List, length};
+ghost use Rattle.std.specs.Prelude.{◌^◌, ◌<◌, ◌≤◌, All, IfOk, List, length};
 ghost use Rattle.trie_model.specs.Nodes.{PathNode, nodes_without, stored_nodes};
 ghost use Rattle.trie_model.specs.State.{State};
 ghost use Rattle.trie_model.specs.Trie.{trie_root};

@@ -1,4 +1,4 @@
-ghost use Rattle.std.specs.Prelude.{◌≡◌, ◌≢◌, ℕ, ◌-◌, ◌<◌, ◌≤◌, List, [], ◌∷◌, ◌++◌, All, IfOk, IfSome, IsPermutation, IsTrue, OnOk, length, map, reverse, true, false, None};
+ghost use Rattle.std.specs.Prelude.{◌≡◌, ◌≢◌, ◌-◌, ◌<◌, ◌≤◌, List, [], ◌∷◌, ◌++◌, All, IfOk, IfSome, IsPermutation, IsTrue, OnOk, length, map, true, false, None};
 ghost use Rattle.std.specs.Str.{bytes_eq};
 ghost use Rattle.std.specs.Option.{option_to_list};
 ghost use Rattle.std.specs.Ordering.{is_lt, nat_cmp};
@@ -7,7 +7,7 @@ ghost use Rattle.sdb_blake2.specs.Blake2b.{H};
 ghost use Rattle.trie_model.specs.Nodes.{PathNode};
 ghost use Rattle.trie_read.specs.Paths.{RiseByPath};
 ghost use Rattle.trie_change.specs.Deltas.{hash_of_node, hashed};
-ghost use Rattle.trie_change.specs.inner.Diffs.{AreShort, Comparison, HasItsHash, IsComparison, after_node, all_dropped, all_left, met, most_in_node, passed};
+ghost use Rattle.trie_change.specs.inner.Diffs.{AreShort, Comparison, HasItsHash, IsComparison, after_node, all_dropped, all_left, met, most_in_node};
 ghost use Rattle.trie_change.specs.inner.Settled.{fed_nodes};
 
 use crate::frontier::Fed;

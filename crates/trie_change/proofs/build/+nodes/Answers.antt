@@ -12,8 +12,10 @@ use Rattle.trie_change.specs.declared.frontier.Item.{Item}
 use Rattle.trie_change.specs.inner.Built.{IsShortValue, ItemGroup, hash_here, is_made, item_path, made_of_group, node_of_group, nodes_at, nodes_from}
 use Rattle.trie_change.specs.inner.Diffs.{Comparison, IsComparison, after_nodes}
 use Rattle.trie_change.proofs.ChildRuns.{Coming, all_come, nodes_at_nibble, none_come, one_comes, run_group}
-use Rattle.trie_change.proofs.Parting.{shared_by}
-use Rattle.trie_change.proofs.MadeGroups.{any_there, away_from, end_within, group_made, group_some, kept_made, longer_path, path_taken, value_there}
+use Rattle.trie_change.proofs.ItemsParted.{shared_by}
+use Rattle.trie_change.proofs.ChildValues.{any_there, group_some, longer_path, path_taken, value_there}
+use Rattle.trie_change.proofs.KeptStubs.{kept_made}
+use Rattle.trie_change.proofs.MadeGroups.{away_from, end_within, group_made}
 use Rattle.trie_change.proofs.SpellingLength.{short_path}
 use Rattle.trie_change.proofs.build.+nodes.Goals as goal
 

@@ -7,7 +7,7 @@ use Rattle.trie_change.specs.Frontier.{is_under}
 use Rattle.trie_change.specs.inner.Built.{made_of_group}
 use Rattle.trie_change.specs.inner.Diffs.{HasItsHash, after_nodes, all_left}
 use Rattle.trie_change.proofs.SettledItems.{all_items, drops_are, fed_rise, puts_are, root_is}
-use Rattle.trie_change.proofs.SortedNodes.{rise_by_path}
+use Rattle.trie_change.proofs.NodeEntries.{rise_by_path}
 use Rattle.trie_change.proofs.delta.delta_of.Goals as goal
 
 pub returns-clause-settled : goal.returns-clause-settled
