@@ -1,5 +1,8 @@
 use pdb_cells::{CellName, Cells, Draft, HEAD_FILE, MapCells};
-use pdb_value::{Address, OutOfMemory, ValueFault, add_ref, count, drop_ref, place, read_head, read_into, replace};
+use pdb_value::{
+    Address, OutOfMemory, ValueFault, add_ref, count, drop_ref, place, read_head, read_into,
+    replace,
+};
 use std::alloc::Global;
 use std::test::*;
 

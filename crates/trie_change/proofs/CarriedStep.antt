@@ -12,12 +12,12 @@ pub one_set : (s : Setting) (key : List ℕ) (settings less : List Setting) (fou
 one_set s key settings less found later found2 later2 later3 rest at e d below is m = (
   d.moved ++ (set_item s s.value ++ rest),
   ap (λ (xs : List Item). xs ++ rest) (is ∙ ap (λ (xs : List Item). xs ++ set_item s s.value) d.later_is)
-  ∙ ap (λ (xs : List Item). xs ++ rest) (append_assoc later d.moved (set_item s s.value))
-  ∙ append_assoc later (d.moved ++ set_item s s.value) rest
-  ∙ ap (λ (xs : List Item). later ++ xs) (append_assoc d.moved (set_item s s.value) rest),
+      ∙ ap (λ (xs : List Item). xs ++ rest) (append_assoc later d.moved (set_item s s.value))
+      ∙ append_assoc later (d.moved ++ set_item s s.value) rest
+      ∙ ap (λ (xs : List Item). later ++ xs) (append_assoc d.moved (set_item s s.value) rest),
   subst (λ (ss : List Setting). IsMerged (reverse found) ss (d.moved ++ (set_item s s.value ++ rest)))
-  (sym (ap reverse e ∙ reverse-append less (s ∷ [])))
-  (d.merges s (reverse less) (set_item s s.value ++ rest) at (comes_in (reverse found2) s (reverse less) rest below m)),
+      (sym (ap reverse e ∙ reverse-append less (s ∷ [])))
+      (d.merges s (reverse less) (set_item s s.value ++ rest) at (comes_in (reverse found2) s (reverse less) rest below m)),
 )
 
 pub no_items : {X : Type 0} (xs : List X) → length xs ≡ 0 → xs ≡ []

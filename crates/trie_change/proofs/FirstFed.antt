@@ -80,7 +80,7 @@ first_wanted now m changes fed found rest s todo held comes =
     let is : IsStub (suffixes_of now) s = (all_split (IsItem (suffixes_of now)) found (item.Stub s ∷ rest) held.frontier.stubs).1.0 in
     let o : IsOpen (suffixes_of now) s = opened (suffixes_of now) s is in
     let list : todo ≡ path_node_at (suffixes_of now) s.path.items
-        ∷ for_change (all_under (suffixes_of now) found ++ (filter is_stored o.rest ++ all_under (suffixes_of now) rest)) (all_nodes (apply m changes)) (keys_in_changes changes) =
+    ∷ for_change (all_under (suffixes_of now) found ++ (filter is_stored o.rest ++ all_under (suffixes_of now) rest)) (all_nodes (apply m changes)) (keys_in_changes changes) =
     held.todo_is
     ∙ ap (λ (ns : List PathNode). for_change ns (all_nodes (apply m changes)) (keys_in_changes changes))
     (flat_map-append (stored_under (suffixes_of now)) found (item.Stub s ∷ rest)

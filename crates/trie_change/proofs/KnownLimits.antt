@@ -113,7 +113,7 @@ all_short zero at n path is h len e = tt
 all_short (suc levels) at n path is h len e =
     let parts : AreParts (IsNodeWithin 32) n = parts_of_node n is in
     let deep : (at + length n.partial ≤ 2048) × (is_long_value n.value ≡ false)
-        × (list_any (child_too_deep (too_deep levels (at + length n.partial + 1))) n.children ≡ false) = deep_parts levels at n e in
+    × (list_any (child_too_deep (too_deep levels (at + length n.partial + 1))) n.children ≡ false) = deep_parts levels at n e in
     let key : List ℕ = path ++ n.partial in
     let nibbles : Nibbles key = nibbles_joined path n.partial h parts.partial.nibbles in
     let long : length key ≡ at + length n.partial = length-append path n.partial ∙ ap (λ k. k + length n.partial) len in

@@ -104,9 +104,11 @@ module _ (now m : State) (changes : List Change) (sound : Sound (suffixes_of now
           (sym (map-append (λ (g : Fed). let x : PathNode = record { path = g.path.items; bytes = g.bytes } in x) fed (f ∷ [])))
           (all_joined (λ (x : PathNode). is_under (found ++ (items ++ rest)) x ≡ false) (fed_nodes fed) (record { path = f.path.items; bytes = f.bytes } ∷ [])
           (all_weaker (λ (x : PathNode). is_under (found ++ (item.Stub s ∷ rest)) x ≡ false) (λ (x : PathNode). is_under (found ++ (items ++ rest)) x ≡ false)
-          (stays_apart (suffixes_of now) sound s stub_is items node its_read known found rest) (fed_nodes fed) held.apart)
-          (ap (λ (p : List ℕ). list_any (is_at_stub p) (found ++ (items ++ rest))) path
-          ∙ itself_apart (suffixes_of now) sound s stub_is items node its_read known found rest held.alone held.frontier, tt))
+          (stays_apart (suffixes_of now) sound s stub_is items node its_read known found rest) (fed_nodes fed) held.apart) (
+            ap (λ (p : List ℕ). list_any (is_at_stub p) (found ++ (items ++ rest))) path
+                ∙ itself_apart (suffixes_of now) sound s stub_is items node its_read known found rest held.alone held.frontier,
+            tt,
+          ))
 
       pub held_after : IsHeld now m changes (fed ++ f ∷ []) (found ++ (items ++ rest)) todo
       held_after = record {

@@ -154,7 +154,6 @@ carried settings fed found later m changes todo some w merged =
       unhung = tt;
     }
   where
-
     to_stub : (i : Item) → IsOff settings i → OfStub (λ (s : Stub). s.path.items ≡ [] → ⊥) i
     to_stub (item.Entry e) o = tt
     to_stub (item.Stub s) o = below_root settings (item.Stub s) some o

@@ -104,7 +104,8 @@ impl ChangeJob {
     {
         let mut job = ChangeJob::begun(alloc, changes)?;
         let path = SmallVec::new(alloc);
-        job.later.push_reserved(Item::Stub(Stub { path, hash: root }));
+        job.later
+            .push_reserved(Item::Stub(Stub { path, hash: root }));
         job.go_on();
         Ok(job)
     }
@@ -251,7 +252,10 @@ impl ChangeJob {
         ensures short { IfOk result (λ d. All (λ n. length n.bytes ≤ 4200000) d.puts) }
     {
         let ChangeJob {
-            alloc, fed, found, ..
+            alloc,
+            fed,
+            found,
+            ..
         } = self;
         delta_of(alloc, found.as_slice(), fed)
     }

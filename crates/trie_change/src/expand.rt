@@ -129,11 +129,7 @@ fn put_child(
 }
 
 /// What a node has whose path this is, and the inline nodes in it, in the order of keys.
-pub(crate) fn items_of(
-    alloc: Global,
-    path: &[u8],
-    node: &NodeRef,
-) -> Result<Vec<Item>, OutOfMemory>
+pub(crate) fn items_of(alloc: Global, path: &[u8], node: &NodeRef) -> Result<Vec<Item>, OutOfMemory>
     ensures { IfOk result (λ items. all_known items.items ≡ known_in 33 (node_of_ref node.now) path.now) }
 {
     let mut items = Vec::new(alloc);

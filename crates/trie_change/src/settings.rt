@@ -121,11 +121,7 @@ pub(crate) fn move_all(found: &mut Vec<Item>, later: &mut Vec<Item>)
 }
 
 /// Carries out what is set on rising items. What comes of them goes to `later`, the last first.
-pub(crate) fn carry_out(
-    settings: &mut Vec<Setting>,
-    found: &mut Vec<Item>,
-    later: &mut Vec<Item>,
-)
+pub(crate) fn carry_out(settings: &mut Vec<Setting>, found: &mut Vec<Item>, later: &mut Vec<Item>)
     requires room { vec_len settings.old + vec_len found.old ≤ vec_capacity later.old }
     requires none { later.old.items ≡ [] }
     ensures merged { IsMerged (reverse found.old.items) (reverse settings.old.items) later.new.items }

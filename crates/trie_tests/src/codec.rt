@@ -4,8 +4,11 @@ ghost use Rattle.trie_model.specs.Node.{IsPartial, HasCompactLength};
 use sdb_base::{Bytes, Nibbles, OutOfMemory};
 use std::alloc::Global;
 use std::test::*;
-use trie_codec::{ChildList, ChildRef, CodecFault, Kind, NodeRef, Plain, encode, encode_leaf, encode_parts};
-use trie_codec::{faults_stay, known_readings, more_levels_read_nothing_more, what_is_read_was_written, what_is_written_is_read};
+use trie_codec::{
+    ChildList, ChildRef, CodecFault, Kind, NodeRef, Plain, encode, encode_leaf, encode_parts,
+    faults_stay, known_readings, more_levels_read_nothing_more, what_is_read_was_written,
+    what_is_written_is_read,
+};
 
 // Bytes that are no node, and their first fault. Where two faults could be named, the second comes after it.
 const REFUSED: [(&[u8], CodecFault); 38] = [
