@@ -11,7 +11,7 @@ use Rattle.pdb_model.specs.Logs.{IsLogFile, gate_file}
 use Rattle.pdb_model.specs.Records.{IsRecord, Record, record_bytes}
 use Rattle.pdb_model.specs.declared.gate_slot.GateSlot.{GateSlot}
 use Rattle.pdb_model.specs.Recovery.{Row}
-use Rattle.pdb_log.specs.Ledger.{AreNumbered, IsNextGate, IsPassed, IsSegment, IsSpent, Ledger, Segment, StandsInFiles, all_flushed, appended, emptied, file_of, file_synced, passed, records_of, spelled_records, with_segment, writes_of}
+use Rattle.pdb_log.specs.Ledger.{AreNumbered, IsNextGate, IsPassed, IsSegment, IsSpent, Ledger, Segment, StandsInFiles, records_flushed, appended, emptied, file_of, file_synced, passed, records_of, spelled_records, with_segment, writes_of}
 use Rattle.pdb_log.proofs.Bytes.{spelled-append}
 use Rattle.pdb_log.proofs.Members.{from_in, in_none, numbered_from, numbered_push, numbered_rest, numbered_upto}
 use Rattle.pdb_log.proofs.Segments.{spent_of}
@@ -144,7 +144,7 @@ sync_stands old new l file is m whole before synced = record {
     g = all_kept (l.segments file)
 
 -- where no log file has records after its last sync, all are flushed
-pub flush_stands : (fs : Files) (l : Ledger) → StandsInFiles fs l → ((j : ℕ) → IsLogFile j → (l.segments j).pending ≡ []) → StandsInFiles fs (all_flushed l)
+pub flush_stands : (fs : Files) (l : Ledger) → StandsInFiles fs l → ((j : ℕ) → IsLogFile j → (l.segments j).pending ≡ []) → StandsInFiles fs (records_flushed l)
 flush_stands fs l is none = record {
   segments = is.segments;
   numbers = subst (AreNumbered (l.gate.number + 1)) whole is.numbers;
