@@ -17,7 +17,8 @@ use Rattle.pdb_log.specs.Standing.{IsLog}
 use Rattle.pdb_log.specs.declared.log.Log.{Log}
 use Rattle.pdb_log.specs.declared.ring_file.RingFile.{RingFile}
 use Rattle.pdb_log.proofs.Images.{KeptWithin, stands_safe}
-use Rattle.pdb_log.proofs.Ledgers.{cut_stands, each_segment, not_cells, not_gate}
+use Rattle.pdb_log.proofs.Ledgers.{each_segment, not_cells, not_gate}
+use Rattle.pdb_log.proofs.Passing.{cut_stands}
 use Rattle.pdb_log.proofs.Logs.{SetTo, kept_within, safe_now}
 use Rattle.pdb_log.proofs.Members.{in_none, numbered_from, numbered_upto}
 use Rattle.pdb_log.proofs.Rows.{same_rows}

@@ -6,9 +6,11 @@ pub mod Taken
 pub mod Images
 pub mod Rows
 pub mod Ledgers
+pub mod Passing
 pub mod Logs
 pub mod Syncs
 pub mod Turns
+pub mod Beside
 pub mod Cells
 pub mod Passes
 pub mod Gates
