@@ -16,3 +16,4 @@ pub mod Passes
 pub mod Gates
 pub mod Cleans
 pub mod Clears
+pub mod Cleared
