@@ -16,7 +16,8 @@ use Rattle.pdb_log.specs.declared.log.Log.{Log}
 use Rattle.pdb_log.specs.declared.ring_file.RingFile.{RingFile}
 use Rattle.pdb_log.proofs.Gates.{Fits, either_in, gate_written, place_of}
 use Rattle.pdb_log.proofs.Images.{either_safe}
-use Rattle.pdb_log.proofs.Ledgers.{not_gate, passed_stands, same_stands}
+use Rattle.pdb_log.proofs.Ledgers.{not_gate, same_stands}
+use Rattle.pdb_log.proofs.Passing.{passed_stands}
 use Rattle.pdb_log.proofs.Logs.{kept_within, safe_now}
 use Rattle.pdb_log.proofs.Rows.{same_rows}
 

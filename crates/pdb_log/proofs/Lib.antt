@@ -6,11 +6,14 @@ pub mod Taken
 pub mod Images
 pub mod Rows
 pub mod Ledgers
+pub mod Passing
 pub mod Logs
 pub mod Syncs
 pub mod Turns
+pub mod Beside
 pub mod Cells
 pub mod Passes
 pub mod Gates
 pub mod Cleans
 pub mod Clears
+pub mod Cleared

@@ -13,7 +13,7 @@ use Rattle.pdb_disk.specs.Files.{FileBytes, FileState, Files, Image, IsFileImage
 use Rattle.pdb_model.specs.Records.{Record}
 use Rattle.pdb_model.specs.Recovery.{Row, Safe, bytes_from, cells_of_files, commits_after, laid_over}
 use Rattle.pdb_model.specs.declared.gate_slot.GateSlot.{GateSlot}
-use Rattle.pdb_log.specs.Ledger.{AreRows, IsRowAt, Ledger, all_flushed, appended, row_after}
+use Rattle.pdb_log.specs.Ledger.{AreRows, IsRowAt, Ledger, records_flushed, appended, row_after}
 
 below_nine : (file : ℕ) → file < 9 → size_of file ≡ None
 below_nine file low = no_cells file (inl (omega (arith, low), (λ e. omega (arith, low, e))))
@@ -134,7 +134,7 @@ append_rows rows f fs l file r row len last are k le x image = ⊎_elim
     (cases_lt (length l.rest) k)
 
 -- all records are flushed
-pub flush_rows : (rows : List Row) (f : ℕ) (fs : Files) (l : Ledger) → AreRows rows f fs l → AreRows rows (f + length l.rest) fs (all_flushed l)
+pub flush_rows : (rows : List Row) (f : ℕ) (fs : Files) (l : Ledger) → AreRows rows f fs l → AreRows rows (f + length l.rest) fs (records_flushed l)
 flush_rows rows f fs l are k le x image =
     let e : f + length l.rest ≡ f + length l.rest + k = omega (arith, le) in
     let empty : List Record = [] in

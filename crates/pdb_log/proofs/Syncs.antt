@@ -9,7 +9,7 @@ use Rattle.pdb_disk.proofs.Calls.{one_call}
 use Rattle.pdb_model.specs.Logs.{IsLogFile, gate_file, most_in_log}
 use Rattle.pdb_model.specs.Records.{Record, record_bytes}
 use Rattle.pdb_model.specs.Recovery.{Row, Safe}
-use Rattle.pdb_log.specs.Ledger.{IsKeptGate, IsSegment, Ledger, Segment, all_flushed, file_of, file_synced, records_of, spelled_records, with_segment}
+use Rattle.pdb_log.specs.Ledger.{IsKeptGate, IsSegment, Ledger, Segment, records_flushed, file_of, file_synced, records_of, spelled_records, with_segment}
 use Rattle.pdb_log.specs.Standing.{IsLog}
 use Rattle.pdb_log.specs.declared.log.Log.{Log}
 use Rattle.pdb_log.specs.declared.ring_file.RingFile.{RingFile}
@@ -123,7 +123,7 @@ module _ {D : Type 0} (tells : D → Type 0) (clock : D → ℕ) (past : D → �
 
   -- each log file was synced
   pub flush_log : (log : Log D) (l : Ledger) (rows : List Row) (f : ℕ) → ((j : ℕ) → IsLogFile j → (l.segments j).pending ≡ []) → IsLog tells clock past log l rows f
-      → IsLog tells clock past log (all_flushed l) rows (f + length l.rest)
+      → IsLog tells clock past log (records_flushed l) rows (f + length l.rest)
   flush_log log l rows f none is = record {
     told = is.told;
     stands = flush_stands (now_of log.disk) l is.stands none;

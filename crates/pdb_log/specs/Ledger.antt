@@ -93,8 +93,8 @@ abbrev pub files_synced : Ledger → Ledger
 files_synced l = file_synced (file_synced (file_synced (file_synced l 1) 2) 3) 4
 
 -- all records are flushed
-abbrev pub all_flushed : Ledger → Ledger
-all_flushed l = record l { flushed = l.flushed ++ l.rest; rest = [] }
+abbrev pub records_flushed : Ledger → Ledger
+records_flushed l = record l { flushed = l.flushed ++ l.rest; rest = [] }
 
 -- the gate was moved, and these flushed records come after it
 abbrev pub passed : Ledger → GateSlot → List Record → Ledger

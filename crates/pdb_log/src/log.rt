@@ -75,7 +75,7 @@ fn record_len(puts: &[Put]) -> u64
 impl<D: Disk> Log<D> {
     ghost use Rattle.pdb_model.specs.Recovery.{Row, Safe};
     ghost use Rattle.pdb_log.specs.Answers.{log_disk_fails};
-    ghost use Rattle.pdb_log.specs.Ledger.{AreRows, IsEmptyFile, IsKeptGate, IsNextGate, IsPassed, Ledger, all_flushed, appended, cleared, emptied, file_synced, files_cleared, files_synced, fresh_ledger, passed, row_after};
+    ghost use Rattle.pdb_log.specs.Ledger.{AreRows, IsEmptyFile, IsKeptGate, IsNextGate, IsPassed, Ledger, records_flushed, appended, cleared, emptied, file_synced, files_cleared, files_synced, fresh_ledger, passed, row_after};
     ghost use Rattle.pdb_log.specs.Standing.{IsCellAt, IsLog, end_of_log, next_gate, next_in_ring, next_record, turned, turns};
 
     /// The log after a gate that is in force, where all log files are empty.
@@ -214,7 +214,7 @@ impl<D: Disk> Log<D> {
     /// call where there are none.
     pub fn flush(&mut self) -> Result<(), DiskFault>
         ensures flushed { (l : Ledger) → (rows : List Row) → (f : ℕ) → IsLog D.tells D.clock D.past self.old l rows f
-            → OnOk result (IsLog D.tells D.clock D.past self.new (all_flushed (files_synced l)) rows (f + length l.rest)) }
+            → OnOk result (IsLog D.tells D.clock D.past self.new (records_flushed (files_synced l)) rows (f + length l.rest)) }
         ensures any_moment { (l : Ledger) → (rows : List Row) → (f : ℕ) → IsLog D.tells D.clock D.past self.old l rows f
             → Moments (D.clock self.old.disk) (D.clock self.new.disk) (D.past self.old.disk) (D.past self.new.disk) (Safe rows f) }
         ensures idle { (l : Ledger) → (rows : List Row) → (f : ℕ) → IsLog D.tells D.clock D.past self.old l rows f

@@ -54,15 +54,18 @@ fn a_record_is_appended_and_flushed(rt: HostRuntime) -> Result<(), Fail> {
         let appended = log.append(rt.alloc(), 1, &puts);
         let flushed = log.flush();
         let flushed_again = log.flush();
-        let mut bytes = [0xff; 131];
+        let mut bytes = [0xff; 130];
         let read = log.read_at(1, 0, &mut bytes);
+        let mut next = [0xff; 1];
+        let read_next = log.read_at(1, 130, &mut next);
         let disk = log.into_disk();
         assert_eq!(rt; appended, append);
-        assert_eq!(rt; (flushed, flushed_again, read), (flush, again, Ok(())));
+        assert_eq!(rt; (flushed, flushed_again), (flush, again));
+        assert_eq!(rt; (read, read_next), (Ok(()), Ok(())));
         assert_eq!(rt; disk.calls(), calls);
         if append.is_ok() {
-            assert_eq!(rt; &bytes[..130], ONE_SLOT.as_slice());
-            assert_eq!(rt; bytes[130], 0);
+            assert_eq!(rt; bytes, ONE_SLOT);
+            assert_eq!(rt; next, [0]);
         }
     }
     Ok(())

@@ -2,7 +2,7 @@ use Rattle.std.proofs.Common.{◌∙◌, ◌+◌, subst}
 use Rattle.pdb_disk.proofs.Calls.{joined}
 use Rattle.pdb_log.specs.Ledger.{Ledger, cleared, passed}
 use Rattle.pdb_log.specs.Standing.{IsLog, next_gate}
-use Rattle.pdb_log.proofs.Clears.{files_cleared_as}
+use Rattle.pdb_log.proofs.Cleared.{files_cleared_as}
 use Rattle.pdb_log.proofs.log.Log.clean.Goals as goal
 
 pub returns-in_err-clear_passed-clause-any_moment : goal.returns-in_err-clear_passed-clause-any_moment

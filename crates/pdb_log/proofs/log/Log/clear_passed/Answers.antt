@@ -5,7 +5,7 @@ use Rattle.pdb_model.specs.Recovery.{Safe}
 use Rattle.pdb_model.specs.declared.gate_slot.GateSlot.{GateSlot}
 use Rattle.pdb_log.specs.Ledger.{Ledger}
 use Rattle.pdb_log.specs.Standing.{IsLog}
-use Rattle.pdb_log.proofs.Clears.{cleared_is, cleared_not, file_passed}
+use Rattle.pdb_log.proofs.Cleared.{cleared_is, cleared_not, file_passed}
 use Rattle.pdb_log.proofs.Logs.{safe_now}
 use Rattle.pdb_log.proofs.log.Log.clear_passed.Goals as goal
 use Rattle.pdb_log.proofs.log.Log.clear_passed.Goals.{else-self-file-gt0-via-then-self-file-gt0+else-self-file, else-self-file-gt0-via-else-self-file-gt0}
