@@ -42,3 +42,4 @@ pub mod LimitsKept
 pub mod GoingOn
 pub mod TakenStage
 pub mod KnownLimits
+pub mod LastSets
