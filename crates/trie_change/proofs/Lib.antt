@@ -43,3 +43,4 @@ pub mod GoingOn
 pub mod TakenStage
 pub mod KnownLimits
 pub mod LastSets
+pub mod Beginning
