@@ -69,3 +69,5 @@ pub mod LimitsKept
 pub mod GoingOn
 pub mod TakenStage
 pub mod KnownLimits
+pub mod LastSets
+pub mod Beginning

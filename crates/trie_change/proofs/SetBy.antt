@@ -119,7 +119,7 @@ or_false : (b : Bool) → (b || false) ≡ b
 or_false true = refl
 or_false false = refl
 
-set_keys : (changes : List Change) (q : List ℕ) → is_some (get (set_from empty changes) q) ≡ list_any (λ k. bytes_eq k q) (keys_in_changes changes)
+pub set_keys : (changes : List Change) (q : List ℕ) → is_some (get (set_from empty changes) q) ≡ list_any (λ k. bytes_eq k q) (keys_in_changes changes)
 set_keys changes q =
     named changes empty q ∙ ap (λ (o : Option (Option (List ℕ))). list_any (λ k. bytes_eq k q) (keys_in_changes changes) || is_some o) (get-empty (slice_cmp nat_cmp) q)
     ∙ or_false (list_any (λ k. bytes_eq k q) (keys_in_changes changes))

@@ -5,5 +5,6 @@ pub mod Settled
 pub mod Known
 pub mod Room
 pub mod InOrder
+pub mod LastSet
 pub mod Merged
 pub mod Stages

@@ -1,9 +1,10 @@
-ghost use Rattle.std.specs.Prelude.{◌≡◌, ℕ, ◌+◌, ◌≤◌, List, [], ◌++◌, All, IfOk, IfSome, reverse, vec_len, vec_capacity};
+ghost use Rattle.std.specs.Prelude.{◌≡◌, ◌+◌, ◌<◌, ◌≤◌, [], ◌++◌, length, All, IfOk, IfSome, reverse, vec_len, vec_capacity};
 ghost use Rattle.std.specs.List.{AllByRecursion};
 ghost use Rattle.sdb_base.specs.Nibbles.{nibbles_of};
-ghost use Rattle.trie_model.specs.Limits.{ChangesAreWithin};
+ghost use Rattle.trie_model.specs.Limits.{ChangesAreWithin, most_in_key, most_in_value};
 ghost use Rattle.trie_change.specs.Changing.{IsLimitedSetting, settings_of};
 ghost use Rattle.trie_change.specs.inner.InOrder.{begins_one, set_pairs};
+ghost use Rattle.trie_change.specs.inner.LastSet.{set_all};
 ghost use Rattle.trie_change.specs.inner.Merged.{HasBytes, IsBelowKey, IsMerged, IsMovedDown, set_item};
 
 use crate::frontier::{Entry, Item, Path};
@@ -34,11 +35,47 @@ fn path_of_key(alloc: Global, key: &[u8]) -> Result<Path, OutOfMemory>
     Ok(path)
 }
 
+// What the items of a slice are. It runs nothing.
+fn are_bytes(bytes: &[u8])
+    ensures { All (λ b. b < 256) bytes.now }
+{
+    let _bytes = bytes;
+}
+
+// What a key is set to.
+fn setting_of(
+    alloc: Global,
+    key: &[u8],
+    value: Option<Bytes>,
+) -> Result<Setting, OutOfMemory>
+    requires key { length key.now ≤ most_in_key }
+    requires value { IfSome value (λ v. length v ≤ most_in_value) }
+    ensures path { IfOk result (λ s. s.path.items ≡ nibbles_of key.now) }
+    ensures value { IfOk result (λ s. s.value ≡ value) }
+    ensures limits { IfOk result IsLimitedSetting }
+    ensures bytes { IfOk result HasBytes }
+{
+    are_bytes(key);
+    let path = path_of_key(alloc, key)?;
+    match value {
+        None => Ok(Setting { path, value: None }),
+        Some(value) => {
+            are_bytes(value.as_slice());
+            Ok(Setting {
+                path,
+                value: Some(value),
+            })
+        }
+    }
+}
+
 // What each key is set to last.
 fn last_of_each(
     alloc: Global,
     changes: Changes,
-) -> Result<BTreeMap<Bytes, Option<Bytes>>, OutOfMemory> {
+) -> Result<BTreeMap<Bytes, Option<Bytes>>, OutOfMemory>
+    ensures { IfOk result (λ last. last.entries ≡ set_all [] changes) }
+{
     let mut last = BTreeMap::new(alloc);
     for change in changes.into_vec() {
         let Change { key, value, .. } = change;
@@ -57,8 +94,7 @@ pub(crate) fn settings_of(alloc: Global, changes: Changes) -> Result<Vec<Setting
     let last = last_of_each(alloc, changes)?;
     let mut settings = Vec::new(alloc);
     for (key, value) in last {
-        let path = path_of_key(alloc, key.as_slice())?;
-        settings.push(Setting { path, value })?;
+        settings.push(setting_of(alloc, key.as_slice(), value)?)?;
     }
     Ok(settings)
 }

@@ -1,0 +1,53 @@
+use Rattle.std.proofs.Common.{◌≡◌, List, [], ◌++◌, reverse, None, Option, ap, ap₂, subst, sym, ◌∙◌}
+use Rattle.std.specs.Prelude.{IfSome}
+use Rattle.std.specs.List.{AllByRecursion}
+use Rattle.std.specs.Option.{option_map}
+use Rattle.trie_model.specs.Node.{IsPartial}
+use Rattle.trie_model.specs.State.{apply, no_keys}
+use Rattle.trie_model.specs.Trie.{suffixes_of}
+use Rattle.trie_change.specs.Changing.{IsLimitedSetting}
+use Rattle.trie_change.specs.Frontier.{IsFrontier, IsLimited}
+use Rattle.trie_change.specs.declared.frontier.Item.{Item}
+use Rattle.trie_change.specs.declared.frontier.Stub.{Stub}
+use Rattle.trie_change.specs.declared.settings.Setting.{Setting}
+use Rattle.trie_change.specs.inner.InOrder.{stubs_of}
+use Rattle.trie_change.specs.inner.Merged.{IsMerged}
+use Rattle.trie_change.proofs.Beginning.{made_of_nothing}
+use Rattle.trie_change.proofs.CarriedOver.{all_reversed}
+use Rattle.trie_change.proofs.LimitsKept.{limits_merged}
+use Rattle.trie_change.proofs.change_job.ChangeJob.on_empty.Goals as goal
+
+pub returns-clause-creating : goal.returns-clause-creating
+returns-clause-creating c =
+    let j = c.in_ok-job.job in
+    let found : c.move_all.new.later.items ≡ reverse c.carry_out.new.later.items =
+    c.move_all.ensures.items ∙ ap (λ (xs : List Item). xs ++ reverse c.carry_out.new.later.items) c.carry_out.ensures.found in
+    let merged : IsMerged (reverse []) (reverse j.settings.items) c.carry_out.new.later.items =
+    subst (λ (xs : List Item). IsMerged (reverse xs) (reverse j.settings.items) c.carry_out.new.later.items) c.in_ok-job.ensures.found c.carry_out.ensures.merged in
+    let made = made_of_nothing c.args.changes j.settings.items c.carry_out.new.later.items c.in_ok-job.ensures.settings c.in_ok-job.ensures.limits c.in_ok-job.ensures.bytes merged in
+    record {
+      changes_within = c.requires;
+      wants = ap (option_map (λ (s : Stub). s.hash.0)) c.in_ok-job.ensures.wanted;
+      stage = record {
+        after = made.0;
+        frontier = subst (IsFrontier (suffixes_of (apply no_keys c.args.changes))) (sym found) made.1;
+        no_stubs = ap stubs_of found ∙ made.2;
+        none_fed = c.in_ok-job.ensures.fed;
+      };
+    }
+
+pub returns-clause-limits : goal.returns-clause-limits
+returns-clause-limits c =
+    let j = c.in_ok-job.job in
+    let later : AllByRecursion IsLimited c.carry_out.new.later.items =
+    limits_merged _ _ c.carry_out.new.later.items c.carry_out.ensures.merged
+    (subst (λ (xs : List Item). AllByRecursion IsLimited (reverse xs)) (sym c.in_ok-job.ensures.found) tt)
+    (all_reversed IsLimitedSetting j.settings.items c.in_ok-job.ensures.limits) in
+    record {
+      settings = subst (AllByRecursion IsLimitedSetting) (sym c.carry_out.ensures.settings) tt;
+      found = subst (AllByRecursion IsLimited)
+          (sym (c.move_all.ensures.items ∙ ap (λ (xs : List Item). xs ++ reverse c.carry_out.new.later.items) c.carry_out.ensures.found))
+          (all_reversed IsLimited c.carry_out.new.later.items later);
+      wanted = subst (λ (o : Option Stub). IfSome o (λ (s : Stub). IsPartial s.path.items)) (sym c.in_ok-job.ensures.wanted) tt;
+      later = subst (AllByRecursion IsLimited) (sym c.move_all.ensures.none) tt;
+    }
