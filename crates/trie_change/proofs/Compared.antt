@@ -5,7 +5,7 @@ use Rattle.std.proofs.lemmas.List.{append-nil, reverse-reverse}
 use Rattle.std.proofs.lemmas.List.Elements.{filter-append}
 use Rattle.trie_model.specs.Nodes.{PathNode, has_node, nodes_without}
 use Rattle.trie_read.proofs.Rising.{LowerThan, Rises, all_weaker}
-use Rattle.trie_change.specs.inner.Diffs.{Comparison, after_node, after_nodes, all_dropped, all_left, passed}
+use Rattle.trie_change.specs.inner.Diffs.{Comparison, after_node, after_nodes, all_dropped, all_left, passed_by}
 use Rattle.trie_change.proofs.LowerNodes.{all_reversed, all_without, none_above, reversed, reversed_falls}
 use Rattle.trie_change.proofs.MetNodes.{meets}
 use Rattle.trie_change.proofs.OldAbove.{Below, Compares, passes}
@@ -27,7 +27,7 @@ compares_first old r = record {
 
 one_compared : (old new : List PathNode) (n : PathNode) (c : Comparison) → LowerThan n.path new → Compares old new c → Compares old (n ∷ new) (after_node c n)
 one_compared old new n c l k =
-    let p : Comparison = passed n.path c.left c.puts c.drops in
+    let p : Comparison = passed_by n.path c.left c.puts c.drops in
     meets old new n c.puts p.left p.puts p.drops (passes old new n c.left k.gone c.puts c.drops k.parts k.falls k.lower (k.high n.path l) k.drops) k.puts
 
 pub all_compared : (old new : List PathNode) → Rises old → Rises new → Compares old new (after_nodes (all_left old) new)

@@ -25,7 +25,7 @@ use Rattle.trie_change.specs.declared.frontier.Item.{Item}
 use Rattle.trie_change.specs.declared.frontier.Item.TheVariants as item
 use Rattle.trie_change.specs.declared.frontier.Stub.{Stub}
 use Rattle.trie_change.specs.inner.InOrder.{stubs_of}
-use Rattle.trie_change.specs.inner.Settled.{IsSettled, fed_nodes}
+use Rattle.trie_change.specs.inner.Settled.{AreEnough, fed_nodes}
 use Rattle.trie_change.specs.inner.Stages.{IsHeld, IsOffKeys, IsSplit, all_under, stored_under}
 use Rattle.trie_change.proofs.Carried.{carried_stored}
 use Rattle.trie_change.proofs.Deeper.{deeper_after, deeper_before}
@@ -133,7 +133,7 @@ module _ (m : State) (changes : List Change) (within : All IsEntry (entries m)) 
         stored_before m changes within after s clear n further.0 further.1 (hung_before s a),
       )
 
-  pub settled_items : IsSettled (stored_nodes m) (apply m changes) fed items
+  pub settled_items : AreEnough (stored_nodes m) (apply m changes) fed items
   settled_items =
       let passes : AllByRecursion (λ (n : PathNode). not (is_under items n) ≡ true) held.left =
       recursion_from_All (λ (n : PathNode). not (is_under items n) ≡ true) held.left
@@ -167,7 +167,7 @@ no_stubs_hang ss (item.Entry k ∷ items) e = (tt, no_stubs_hang ss items e)
 no_stubs_hang ss (item.Stub s ∷ items) e = absurd cc
 
 pub created_items : (m : State) (fed : List Fed) (items : List Item) → All IsEntry (entries m) → IsFrontier (suffixes_of m) items → stubs_of items ≡ [] → fed ≡ []
-    → IsSettled [] m fed items
+    → AreEnough [] m fed items
 created_items m fed items within front none nothing = record {
   within = within;
   rises = refl;

@@ -21,7 +21,7 @@ use Rattle.trie_change.proofs.FedNodes.{ended}
 use Rattle.trie_change.proofs.GroupNodes.{made_parts, parts_of_node, value_of_first}
 use Rattle.trie_change.proofs.ItemPaths.{drop_itself}
 use Rattle.trie_change.proofs.ItemsParted.{AreEnds, Parts, shared_by}
-use Rattle.trie_change.proofs.Parting.{branch_at, parts_of}
+use Rattle.trie_change.proofs.Parting.{branch_at, parts_of_job}
 
 -- ---- the ends of a group
 
@@ -90,7 +90,7 @@ group_made at end items g first bytes children c d some is away place below_it s
     let last : Item = get_or items (length items - 1) first in
     let ends : AreEnds items first last = ends_of items first some is in
     let shared : List ℕ = shared_by at first last in
-    let parts : Parts g shared = subst (λ (n : ℕ). Parts g (shared_by n first last)) g.place (parts_of at items first last g ends away) in
+    let parts : Parts g shared = subst (λ (n : ℕ). Parts g (shared_by n first last)) g.place (parts_of_job at items first last g ends away) in
     let b : ItemBranch end items = branch_at g shared end place parts in
     let q : List ℕ = g.path ++ shared in
     let whole = begun items first last ends in

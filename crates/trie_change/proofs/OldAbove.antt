@@ -6,7 +6,7 @@ use Rattle.std.specs.Ordering.{is_lt, nat_cmp}
 use Rattle.std.specs.Cmp.Lexicographic.{slice_cmp}
 use Rattle.trie_model.specs.Nodes.{PathNode, has_node, nodes_without}
 use Rattle.trie_read.proofs.Rising.{LowerThan}
-use Rattle.trie_change.specs.inner.Diffs.{Comparison, passed}
+use Rattle.trie_change.specs.inner.Diffs.{Comparison, passed_by}
 use Rattle.trie_change.proofs.LowerNodes.{Falls, none_above, reversed}
 
 -- each of some nodes is below all of others
@@ -42,7 +42,7 @@ pub record Passes (old new : List PathNode) (n : PathNode) (ps : List PathNode) 
   pub not_above : (o : PathNode) (os : List PathNode) → c.left ≡ o ∷ os → is_lt (slice_cmp nat_cmp n.path o.path) ≡ false
 
 pub passes : (old new : List PathNode) (n : PathNode) (left gone puts drops : List PathNode) → old ≡ reverse left ++ gone → Falls left → Below left new
-    → LowerThan n.path gone → drops ≡ nodes_without gone new → Passes old new n puts (passed n.path left puts drops)
+    → LowerThan n.path gone → drops ≡ nodes_without gone new → Passes old new n puts (passed_by n.path left puts drops)
 passes old new n [] gone puts drops e f l h d = record { gone = gone; parts = e; falls = tt; lower = tt; high = h; puts = refl; drops = d; not_above = λ o os k. cc }
 passes old new n (o ∷ os) gone puts drops e f l h d =
     by_test (λ t. passes old new n os (o ∷ gone) puts (o ∷ drops) (e ∙ reversed o os gone) f.1 l.1 (subst (λ b. T b) (sym t) tt, h) dropped) (is_lt (slice_cmp nat_cmp n.path o.path)) refl
@@ -55,8 +55,8 @@ passes old new n (o ∷ os) gone puts drops e f l h d =
         let none : has_node new o ≡ false = none_above o new l.0 in
         ap (λ (ds : List PathNode). o ∷ ds) d ∙ sym (ap (λ b. cond (not b) (o ∷ nodes_without gone new) (nodes_without gone new)) none)
 
-    by_test : (is_lt (slice_cmp nat_cmp n.path o.path) ≡ true → Passes old new n puts (passed n.path os puts (o ∷ drops))) → (b : Bool) → is_lt (slice_cmp nat_cmp n.path o.path) ≡ b
-        → Passes old new n puts (cond b (passed n.path os puts (o ∷ drops)) (record { left = o ∷ os; puts = puts; drops = drops }))
+    by_test : (is_lt (slice_cmp nat_cmp n.path o.path) ≡ true → Passes old new n puts (passed_by n.path os puts (o ∷ drops))) → (b : Bool) → is_lt (slice_cmp nat_cmp n.path o.path) ≡ b
+        → Passes old new n puts (cond b (passed_by n.path os puts (o ∷ drops)) (record { left = o ∷ os; puts = puts; drops = drops }))
     by_test more true t = more t
     by_test more false t = record {
       gone = gone;

@@ -17,12 +17,12 @@ whole_further p c ss xs e shared =
     with_prefix-below c (below p ss) (subst (λ (t : List ℕ). Begins c t) (sym shared) (begins_itself c)) in
     e ∙ ap (with_prefix p) (sym back) ∙ sym (prefixes_joined p c (below c (below p ss))) ∙ ap (with_prefix (p ++ c)) (sym (below-append p c ss))
 
-pub parts_of : (at : ℕ) (items : List Item) (first last : Item) (g : ItemGroup at items) → AreEnds items first last → (IsHere g.path items → ⊥)
+pub parts_of_job : (at : ℕ) (items : List Item) (first last : Item) (g : ItemGroup at items) → AreEnds items first last → (IsHere g.path items → ⊥)
     → Parts g (shared_by (length g.path) first last)
-parts_of at items first last g (inl one) away =
+parts_of_job at items first last g (inl one) away =
     subst (λ (l : Item). Parts g (shared_by (length g.path) first l)) (sym one.1)
     (subst (λ (is : List Item). (h : ItemGroup at is) → (IsHere h.path is → ⊥) → Parts h (shared_by (length h.path) first first)) (sym one.0) (one_parts at first) g away)
-parts_of at items first last g (inr more) away =
+parts_of_job at items first last g (inr more) away =
     subst (λ (is : List Item). (h : ItemGroup at is) → (IsHere h.path is → ⊥) → Parts h (shared_by (length h.path) first last)) (sym more.1)
     (λ h k. more_parts at first last more.0 h (h.rise k)) g away
 

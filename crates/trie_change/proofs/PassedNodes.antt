@@ -7,22 +7,22 @@ use Rattle.sdb_base.specs.declared.node.Node.{Node}
 use Rattle.sdb_base.specs.declared.node.NodeHash.{NodeHash}
 use Rattle.trie_model.specs.Nodes.{PathNode}
 use Rattle.trie_change.specs.Deltas.{hash_of_node, hashed}
-use Rattle.trie_change.specs.inner.Diffs.{Comparison, IsComparison, after_node, all_dropped, met, passed}
+use Rattle.trie_change.specs.inner.Diffs.{Comparison, IsComparison, after_node, all_dropped, met, passed_by}
 use Rattle.trie_change.specs.inner.Settled.{fed_nodes}
 use Rattle.trie_change.specs.declared.diff.Diff.{Diff}
 use Rattle.trie_change.specs.declared.frontier.Fed.{Fed}
 use Rattle.trie_change.proofs.FedNodes.{ended, fed_node, last_dropped, last_first}
 
--- all that is left after a path is passed
+-- all that is left after a path is passed_by
 abbrev pub passed_from : List ℕ → Comparison → Comparison
-passed_from path c = passed path c.left c.puts c.drops
+passed_from path c = passed_by path c.left c.puts c.drops
 
 -- fed nodes were dropped that the path passes too
 abbrev pub Passing : List ℕ → Comparison → Diff → Type 0
 Passing path c d = (now : Comparison) × IsComparison d now × (passed_from path now ≡ passed_from path c)
 
 one_passed : (path : List ℕ) (o : PathNode) (os puts drops : List PathNode) → is_lt (slice_cmp nat_cmp path o.path) ≡ true
-    → passed path (o ∷ os) puts drops ≡ passed path os puts (o ∷ drops)
+    → passed_by path (o ∷ os) puts drops ≡ passed_by path os puts (o ∷ drops)
 one_passed path o os puts drops e = rw e
 
 pub passed_one : (path : List ℕ) (c : Comparison) (d e : Diff) → ((before : List Fed) (last : Fed) → d.fed.items ≡ before ++ last ∷ []
@@ -42,13 +42,13 @@ passed_one path c d e above some puts dropped p = elim (ended d.fed.items) [
       let n : PathNode = fed_node f in (
         record { left = reverse (fed_nodes e.fed.items); puts = now.puts; drops = fed_node f ∷ now.drops },
         last_dropped d e now n p.1 f taken puts both.1,
-        sym (ap (λ (os : List PathNode). passed path os now.puts now.drops) left
+        sym (ap (λ (os : List PathNode). passed_by path os now.puts now.drops) left
             ∙ one_passed path (fed_node f) (reverse (fed_nodes e.fed.items)) now.puts now.drops (sym (above l.0 f l.2))) ∙ p.2,
       )
 ]
 
 none_passed : (path : List ℕ) (left puts drops : List PathNode) → ((o : PathNode) (os : List PathNode) → left ≡ o ∷ os → is_lt (slice_cmp nat_cmp path o.path) ≡ false)
-    → passed path left puts drops ≡ record { left = left; puts = puts; drops = drops }
+    → passed_by path left puts drops ≡ record { left = left; puts = puts; drops = drops }
 none_passed path [] puts drops h = refl
 none_passed path (o ∷ os) puts drops h = let other : is_lt (slice_cmp nat_cmp path o.path) ≡ false = h o os refl in rw other
 

@@ -17,7 +17,7 @@ use Rattle.trie_change.specs.declared.frontier.Fed.{Fed}
 use Rattle.trie_change.specs.declared.frontier.Item.{Item}
 use Rattle.trie_change.specs.inner.Built.{GoesOnFrom, ItemGroup, is_made, made_of_group, node_of_group, nodes_from}
 use Rattle.trie_change.specs.inner.Diffs.{after_nodes, all_dropped, all_left}
-use Rattle.trie_change.specs.inner.Settled.{IsSettled}
+use Rattle.trie_change.specs.inner.Settled.{AreEnough}
 use Rattle.trie_change.proofs.Compared.{all_compared, drops_at_end}
 use Rattle.trie_change.proofs.OldAbove.{Compares}
 use Rattle.trie_change.proofs.Found.{has_it}
@@ -36,7 +36,7 @@ pub go_on : (items : List Item) → AllByRecursion (GoesOnFrom []) items
 go_on [] = tt
 go_on (i ∷ is) = (refl, go_on is)
 
-abbrev pub all_items : (old : List PathNode) (m2 : State) (fed : List Fed) (items : List Item) → IsSettled old m2 fed items → ItemGroup 0 items
+abbrev pub all_items : (old : List PathNode) (m2 : State) (fed : List Fed) (items : List Item) → AreEnough old m2 fed items → ItemGroup 0 items
 all_items old m2 fed items s = record {
   suffixes = suffixes_of m2;
   path = [];
@@ -94,7 +94,7 @@ kept_differences u ns os both =
 
 -- ---- the state's
 
-module _ (old : List PathNode) (m2 : State) (fed : List Fed) (items : List Item) (s : IsSettled old m2 fed items) where
+module _ (old : List PathNode) (m2 : State) (fed : List Fed) (items : List Item) (s : AreEnough old m2 fed items) where
   abbrev kept : PathNode → Bool
   kept n = not (is_under items n)
 

@@ -17,8 +17,8 @@ use Rattle.trie_change.specs.declared.frontier.Item.{Item}
 use Rattle.trie_change.specs.declared.frontier.Stub.{Stub}
 use Rattle.trie_change.specs.declared.settings.Setting.{Setting}
 use Rattle.trie_change.specs.inner.InOrder.{in_place}
-use Rattle.trie_change.specs.inner.Settled.{IsSettled}
-use Rattle.trie_change.specs.inner.Stages.{IsCarriedOut, IsHeld, IsOffKeys, IsUnderWay, IsWaiting, JobParts, parts_of}
+use Rattle.trie_change.specs.inner.Settled.{AreEnough}
+use Rattle.trie_change.specs.inner.Stages.{IsCarriedOut, IsHeld, IsOffKeys, IsUnderWay, IsWaiting, JobParts, parts_of_job}
 use Rattle.trie_change.proofs.JobItems.{created_items, settled_items}
 
 pub none_wanted : (o : Option Stub) → option_map (λ (s : Stub). s.hash.0) o ≡ None → o ≡ None
@@ -34,15 +34,15 @@ pub only_found : (found later : List Item) (wanted : Option Stub) → wanted ≡
 only_found found later wanted none nothing =
     ap (λ (o : Option Stub). in_place found o later) none ∙ ap (λ (xs : List Item). in_place found None xs) nothing ∙ append-nil found
 
-pub finished : (j : ChangeJob) (m : State) (changes : List Change) → IsChanging j m changes [] → IsSettled (stored_nodes m) (apply m changes) j.fed.items j.found.items
+pub finished : (j : ChangeJob) (m : State) (changes : List Change) → IsChanging j m changes [] → AreEnough (stored_nodes m) (apply m changes) j.fed.items j.found.items
 finished j m changes c =
     let none : j.wanted ≡ None = none_wanted j.wanted c.wants in
-    let last : IsCarriedOut (parts_of j) m changes [] × (j.later.items ≡ []) =
-    last_stage j.settings.items (parts_of j) m changes [] c.stage.under_way c.stage.waiting none in
+    let last : IsCarriedOut (parts_of_job j) m changes [] × (j.later.items ≡ []) =
+    last_stage j.settings.items (parts_of_job j) m changes [] c.stage.under_way c.stage.waiting none in
     let only : in_place j.found.items j.wanted j.later.items ≡ j.found.items = only_found j.found.items j.later.items j.wanted none last.1 in
     settled_items m changes c.within last.0.after j.fed.items j.found.items []
     (subst (λ (xs : List Item). IsHeld (apply m changes) m changes j.fed.items xs []) only last.0.held)
     (subst (AllByRecursion (IsOffKeys (keys_in_changes changes))) only last.0.off) last.0.hanging
 
-pub finished_new : (j : ChangeJob) (changes : List Change) → IsCreating j changes → IsSettled [] (apply no_keys changes) j.fed.items j.found.items
+pub finished_new : (j : ChangeJob) (changes : List Change) → IsCreating j changes → AreEnough [] (apply no_keys changes) j.fed.items j.found.items
 finished_new j changes c = created_items (apply no_keys changes) j.fed.items j.found.items c.stage.after c.stage.frontier c.stage.no_stubs c.stage.none_fed

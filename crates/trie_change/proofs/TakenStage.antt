@@ -27,7 +27,7 @@ use Rattle.trie_change.specs.declared.frontier.Stub.{Stub}
 use Rattle.trie_change.specs.declared.settings.Setting.{Setting}
 use Rattle.trie_change.specs.inner.InOrder.{in_place}
 use Rattle.trie_change.specs.inner.Known.{all_known, known_in}
-use Rattle.trie_change.specs.inner.Stages.{IsCarriedOut, IsHeld, IsOffKeys, IsOnTheWay, IsStage, IsUnderWay, IsWaiting, JobParts, parts_of}
+use Rattle.trie_change.specs.inner.Stages.{IsCarriedOut, IsHeld, IsOffKeys, IsOnTheWay, IsFedSoFar, IsUnderWay, IsWaiting, JobParts, parts_of_job}
 use Rattle.trie_change.proofs.FirstFed.{first_wanted, good_node, nothing_wanted, on_the_way_first, taken_in, unhung_comes_first}
 use Rattle.trie_change.proofs.KnownDeeper.{IsDeeper, all_deeper}
 use Rattle.trie_change.proofs.OffWay.{deeper_off}
@@ -118,7 +118,7 @@ none_first settings [] m changes fed found later todo u w =
     sym (ap first_hash none)
 none_first settings (k ∷ all) m changes fed found later todo u w = absurd cc
 
-pub wants_of : (j : ChangeJob) (m : State) (changes : List Change) (todo : List PathNode) → All IsEntry (entries m) → IsStage j m changes todo → change_wanted j ≡ first_hash todo
+pub wants_of : (j : ChangeJob) (m : State) (changes : List Change) (todo : List PathNode) → All IsEntry (entries m) → IsFedSoFar j m changes todo → change_wanted j ≡ first_hash todo
 wants_of j m changes todo within st = by_wanted j.wanted refl
   where
     by_wanted : (o : Option Stub) → j.wanted ≡ o → option_map (λ (s : Stub). s.hash.0) j.wanted ≡ first_hash todo

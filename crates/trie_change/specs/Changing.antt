@@ -17,7 +17,7 @@ use Rattle.trie_change.specs.Frontier.{IsLimited}
 use Rattle.trie_change.specs.declared.frontier.Stub.{Stub}
 use Rattle.trie_change.specs.declared.settings.Setting.{Setting}
 use Rattle.trie_change.specs.declared.change_job.ChangeJob.{ChangeJob}
-use Rattle.trie_change.specs.inner.Stages.{IsCreated, IsStage}
+use Rattle.trie_change.specs.inner.Stages.{IsCreated, IsFedSoFar}
 
 -- what each key is set to by the last change that names it, None where that deletes it
 abbrev pub settings_from : FinMap (slice_cmp nat_cmp) (Option (List ℕ)) → List Change → FinMap (slice_cmp nat_cmp) (Option (List ℕ))
@@ -62,7 +62,7 @@ pub record IsChanging (j : ChangeJob) (m : State) (changes : List Change) (todo 
   pub within : All IsEntry (entries m)
   pub changes_within : ChangesAreWithin changes
   pub wants : change_wanted j ≡ first_hash todo
-  pub stage : IsStage j m changes todo
+  pub stage : IsFedSoFar j m changes todo
 
 -- The job makes these changes of the state without any key, and no node is to be fed.
 pub record IsCreating (j : ChangeJob) (changes : List Change) : Type 0 where

@@ -1,7 +1,7 @@
 ghost use Rattle.std.specs.Prelude.{◌≡◌, ◌++◌, ◌∷◌, [], length, IfOk, OnOk};
 ghost use Rattle.trie_codec.specs.NodeParts.{child_bytes, node_of_ref};
 ghost use Rattle.trie_codec.specs.Slices.{bytes_in};
-ghost use Rattle.trie_change.specs.inner.Known.{IsWhole, all_known, known_at, known_in, own_known, stub_known};
+ghost use Rattle.trie_change.specs.inner.Known.{HasItsSize, all_known, known_at, known_in, own_known, stub_known};
 
 use crate::frontier::{Entry, Item, Path, Stub};
 use sdb_base::{Bytes, NodeHash, OutOfMemory};
@@ -110,7 +110,7 @@ fn put_child(
     child: ChildRef,
     out: &mut Vec<Item>,
 ) -> Result<(), OutOfMemory>
-    requires { IsWhole child }
+    requires { HasItsSize child }
     ensures { OnOk result (all_known out.new.items
         ≡ all_known out.old.items ++ known_at (known_in levels) (end.now ++ nibble ∷ []) (child_bytes child.entry)) }
 {

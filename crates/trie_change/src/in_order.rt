@@ -8,7 +8,7 @@ ghost use Rattle.trie_model.specs.Trie.{suffixes_of};
 ghost use Rattle.trie_read.specs.Paths.{Hangs};
 ghost use Rattle.trie_root.specs.Suffixes.{IsEntry};
 ghost use Rattle.trie_change.specs.Frontier.{IsFrontier, IsHanging, IsLimited};
-ghost use Rattle.trie_change.specs.inner.InOrder.{IsOff, begins_one, goes_on, hangs_between, in_place, path_of_item};
+ghost use Rattle.trie_change.specs.inner.InOrder.{IsOff, begins_one, goes_on_from, hangs_between, in_place, path_of_item};
 
 use crate::frontier::{Item, Stub};
 use crate::settings::{Setting, begins_a_key};
@@ -24,7 +24,7 @@ pub(crate) fn path_of(item: &Item) -> &[u8]
 }
 
 fn goes_on_with(item: Option<&Item>, nibbles: &[u8]) -> bool
-    ensures { result ≡ goes_on nibbles.now (option_copied item.entry) }
+    ensures { result ≡ goes_on_from nibbles.now (option_copied item.entry) }
 {
     match item {
         Some(item) => path_of(item).starts_with(nibbles),

@@ -43,11 +43,7 @@ fn are_bytes(bytes: &[u8])
 }
 
 // What a key is set to.
-fn setting_of(
-    alloc: Global,
-    key: &[u8],
-    value: Option<Bytes>,
-) -> Result<Setting, OutOfMemory>
+fn setting_of(alloc: Global, key: &[u8], value: Option<Bytes>) -> Result<Setting, OutOfMemory>
     requires key { length key.now ≤ most_in_key }
     requires value { IfSome value (λ v. length v ≤ most_in_value) }
     ensures path { IfOk result (λ s. s.path.items ≡ nibbles_of key.now) }

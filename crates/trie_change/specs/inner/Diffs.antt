@@ -22,10 +22,10 @@ abbrev pub all_left : List PathNode → Comparison
 all_left old = record { left = reverse old; puts = []; drops = [] }
 
 -- old nodes above a path have no new node, and are dropped
-abbrev pub passed : List ℕ → List PathNode → List PathNode → List PathNode → Comparison
-passed path [] puts drops = record { left = []; puts = puts; drops = drops }
-passed path (o ∷ os) puts drops =
-    if is_lt (slice_cmp nat_cmp path o.path) then passed path os puts (o ∷ drops)
+abbrev pub passed_by : List ℕ → List PathNode → List PathNode → List PathNode → Comparison
+passed_by path [] puts drops = record { left = []; puts = puts; drops = drops }
+passed_by path (o ∷ os) puts drops =
+    if is_lt (slice_cmp nat_cmp path o.path) then passed_by path os puts (o ∷ drops)
     else record { left = o ∷ os; puts = puts; drops = drops }
 
 -- A new node is put, and the old one at its path is dropped; an equal one stays, and nothing is put.
@@ -39,7 +39,7 @@ met n (o ∷ os) puts drops =
 
 -- once one more node has come, of a path below those before
 abbrev pub after_node : Comparison → PathNode → Comparison
-after_node c n = let p = passed n.path c.left c.puts c.drops in met n p.left p.puts p.drops
+after_node c n = let p = passed_by n.path c.left c.puts c.drops in met n p.left p.puts p.drops
 
 -- once more nodes have come, the last of them first
 abbrev pub after_nodes : Comparison → List PathNode → Comparison

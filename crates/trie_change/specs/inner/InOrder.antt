@@ -46,13 +46,13 @@ set_pairs settings = map set_pair settings
 -- ---- where a stub hangs
 
 -- whether an item's path goes on with some nibbles
-abbrev pub goes_on : List ℕ → Option Item → Bool
-goes_on nibbles None = false
-goes_on nibbles (Some i) = starts_with nat_eq (path_of_item i) nibbles
+abbrev pub goes_on_from : List ℕ → Option Item → Bool
+goes_on_from nibbles None = false
+goes_on_from nibbles (Some i) = starts_with nat_eq (path_of_item i) nibbles
 
 abbrev pub hangs_between : Option Item → List ℕ → Option Item → Bool
 hangs_between before [] after = true
-hangs_between before (x ∷ path) after = goes_on (take (length path) (x ∷ path)) before || goes_on (take (length path) (x ∷ path)) after
+hangs_between before (x ∷ path) after = goes_on_from (take (length path) (x ∷ path)) before || goes_on_from (take (length path) (x ∷ path)) after
 
 -- a stub of the root has no other items beside it
 abbrev pub IsBelowRoot : Item → Type 0

@@ -23,10 +23,10 @@ abbrev pub all_known : List Item → List Known
 all_known items = map known_of items
 
 -- an inline child is shorter than a hash
-abbrev pub IsWhole : ChildRef → Type 0
-IsWhole child.None = Unit {0}
-IsWhole (child.Inline bytes) = length bytes.now < 32
-IsWhole (child.Hashed hash) = length hash.now ≡ 32
+abbrev pub HasItsSize : ChildRef → Type 0
+HasItsSize child.None = Unit {0}
+HasItsSize (child.Inline bytes) = length bytes.now < 32
+HasItsSize (child.Hashed hash) = length hash.now ≡ 32
 
 -- a node's own key
 abbrev pub own_known : List ℕ → Option (List ℕ) → List Known

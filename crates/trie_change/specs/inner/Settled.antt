@@ -18,7 +18,7 @@ fed_nodes fed = map (λ (f : Fed). record { path = f.path.items; bytes = f.bytes
 
 -- Of the old nodes, which rise by path, those that are neither stubs nor below one were fed, each once; the others are just
 -- the stored nodes of the new state at and below the stubs, which hang in its trie. The items stand for the new state.
-pub record IsSettled (old : List PathNode) (m2 : State) (fed : List Fed) (items : List Item) : Type 0 where
+pub record AreEnough (old : List PathNode) (m2 : State) (fed : List Fed) (items : List Item) : Type 0 where
   pub within : All IsEntry (entries m2)
   pub rises : RiseByPath old
   pub frontier : IsFrontier (suffixes_of m2) items

@@ -68,8 +68,8 @@ pub record JobParts : Type 0 where
   pub found : List Item
   pub later : List Item
 
-abbrev pub parts_of : ChangeJob → JobParts
-parts_of j = record { settings = j.settings.items; fed = j.fed.items; wanted = j.wanted; found = j.found.items; later = j.later.items }
+abbrev pub parts_of_job : ChangeJob → JobParts
+parts_of_job j = record { settings = j.settings.items; fed = j.fed.items; wanted = j.wanted; found = j.found.items; later = j.later.items }
 
 abbrev pub items_in : JobParts → List Item
 items_in j = in_place j.found j.wanted j.later
@@ -110,9 +110,9 @@ abbrev pub IsWaiting : List Setting → JobParts → Type 0
 IsWaiting [] j = j.wanted ≡ None → j.later ≡ []
 IsWaiting (s ∷ settings) j = is_some j.wanted ≡ true
 
-pub record IsStage (j : ChangeJob) (m : State) (changes : List Change) (todo : List PathNode) : Type 0 where
-  pub under_way : IsUnderWay j.settings.items (parts_of j) m changes todo
-  pub waiting : IsWaiting j.settings.items (parts_of j)
+pub record IsFedSoFar (j : ChangeJob) (m : State) (changes : List Change) (todo : List PathNode) : Type 0 where
+  pub under_way : IsUnderWay j.settings.items (parts_of_job j) m changes todo
+  pub waiting : IsWaiting j.settings.items (parts_of_job j)
 
 -- the items are the keys that are set, with their values
 pub record IsCreated (j : ChangeJob) (changes : List Change) : Type 0 where

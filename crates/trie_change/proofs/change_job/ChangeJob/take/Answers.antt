@@ -5,7 +5,7 @@ use Rattle.trie_change.specs.Frontier.{IsLimited}
 use Rattle.trie_change.specs.declared.frontier.Fed.{Fed}
 use Rattle.trie_change.specs.declared.frontier.Item.{Item}
 use Rattle.trie_change.specs.declared.frontier.Stub.{Stub}
-use Rattle.trie_change.specs.inner.Stages.{IsStage, IsUnderWay}
+use Rattle.trie_change.specs.inner.Stages.{IsFedSoFar, IsUnderWay}
 use Rattle.trie_change.proofs.CarriedOver.{all_reversed}
 use Rattle.trie_change.proofs.TakenStage.{taken, wants_of, with_wanted}
 use Rattle.trie_change.proofs.change_job.ChangeJob.take.Goals as goal
@@ -48,5 +48,5 @@ returns-clause-taken c = λ m changes n todo s node changing is path hash bytes 
     subst (λ (fs : List Fed). IsUnderWay j.settings.items (with_wanted j.settings.items fs None c.move_over.new.items.items c.move_all.new.later.items) m changes todo) (sym fed_are)
     (subst (λ (xs : List Item). IsUnderWay j.settings.items (with_wanted j.settings.items (j.fed.items ++ c.args.fed ∷ []) None xs c.move_all.new.later.items) m changes todo)
     (sym c.move_over.ensures.items) after) in
-    let stage : IsStage c.go_on.new.self m changes todo = c.go_on.ensures.stage m changes todo there in
+    let stage : IsFedSoFar c.go_on.new.self m changes todo = c.go_on.ensures.stage m changes todo there in
     record { within = changing.within; changes_within = changing.changes_within; wants = wants_of c.go_on.new.self m changes todo changing.within stage; stage = stage }
