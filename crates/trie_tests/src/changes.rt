@@ -1,4 +1,4 @@
-ghost use Rattle.std.specs.Prelude.{IfOk};
+ghost use Rattle.std.specs.Prelude.{IfOk, IsTrue};
 ghost use Rattle.trie_change.specs.Changing.{KeepsLimits};
 ghost use Rattle.trie_model.specs.Limits.{ChangeIsWithin, ChangesAreWithin};
 
@@ -182,20 +182,10 @@ const A_DOZEN: &[u8] =
 const ENDLESS: &[u8] =
     b"\xc0\x01\x00\x00\x80\x00\x00\x00\x00\x00\x00\x00\x00\x00\x00\x00\x00\x00\x00\x00\x00\x00\x00\x00\x00\x00\x00\x00\x00\x00\x00\x00\x00\x00\x00\x00\x00";
 
-fn change(alloc: Global, key: &[u8], value: Option<&[u8]>) -> Result<Change, Fail>
-    ensures { IfOk result ChangeIsWithin }
-{
-    if key.len() > 1024 {
-        return Err(Fail::new("a key that is too long"));
-    }
+fn change(alloc: Global, key: &[u8], value: Option<&[u8]>) -> Result<Change, Fail> {
     let value = match value {
         None => None,
-        Some(value) => {
-            if value.len() > 4194304 {
-                return Err(Fail::new("a value that is too long"));
-            }
-            Some(Bytes::from_slice(alloc, value)?)
-        }
+        Some(value) => Some(Bytes::from_slice(alloc, value)?),
     };
     Ok(Change {
         trie: Bytes::new(alloc),
@@ -204,29 +194,38 @@ fn change(alloc: Global, key: &[u8], value: Option<&[u8]>) -> Result<Change, Fai
     })
 }
 
-fn changes(alloc: Global, rows: &[Row]) -> Result<Changes, Fail>
+fn is_within(change: &Change) -> bool
+    ensures { IsTrue result → ChangeIsWithin change.now }
+{
+    match &change.value {
+        None => change.key.len() <= 1024,
+        Some(value) => change.key.len() <= 1024 && value.len() <= 4194304,
+    }
+}
+
+// The changes, if they keep the limits.
+fn within(changes: Changes) -> Result<Changes, Fail>
     ensures { IfOk result ChangesAreWithin }
 {
+    if changes.len() > 65536 || !changes.as_slice().iter().all(|change| is_within(change)) {
+        return Err(Fail::new("changes past the limits"));
+    }
+    Ok(changes)
+}
+
+fn changes(alloc: Global, rows: &[Row]) -> Result<Changes, Fail> {
     let mut changes = Changes::new(alloc);
     for (key, value) in rows {
         changes.push(change(alloc, key, *value)?)?;
-    }
-    if changes.len() > 65536 {
-        return Err(Fail::new("too many changes"));
     }
     Ok(changes)
 }
 
 // Settings of the dozen keys.
-fn dozen(alloc: Global) -> Result<Changes, Fail>
-    ensures { IfOk result ChangesAreWithin }
-{
+fn dozen(alloc: Global) -> Result<Changes, Fail> {
     let mut changes = Changes::new(alloc);
     for (key, value) in DOZEN {
         changes.push(change(alloc, key, Some(value))?)?;
-    }
-    if changes.len() > 65536 {
-        return Err(Fail::new("too many changes"));
     }
     Ok(changes)
 }
@@ -283,7 +282,11 @@ fn changed<K: Keeper>(
     rows: &[Row],
     fetched: &[&[u8]],
 ) -> Result<Delta, Fail> {
-    let mut job = ChangeJob::new(alloc, NodeHash(hash256(ROOT)), changes(alloc, rows)?)?;
+    let mut job = ChangeJob::new(
+        alloc,
+        NodeHash(hash256(ROOT)),
+        within(changes(alloc, rows)?)?,
+    )?;
     for node in fetched {
         job = fed(keeper, job, &hash256(node))?;
     }
@@ -327,9 +330,9 @@ fn changes_of_a_state(rt: HostRuntime) -> Result<(), Fail> {
 #[test]
 fn states_from_nothing(rt: HostRuntime) -> Result<(), Fail> {
     let alloc = rt.alloc();
-    let none = finished(ChangeJob::on_empty(alloc, Changes::new(alloc))?)?;
+    let none = finished(ChangeJob::on_empty(alloc, within(Changes::new(alloc))?)?)?;
     assert_eq!(rt; digest(alloc, &none)?.as_slice(), NOTHING);
-    let all = finished(ChangeJob::on_empty(alloc, dozen(alloc)?)?)?;
+    let all = finished(ChangeJob::on_empty(alloc, within(dozen(alloc)?)?)?)?;
     assert_eq!(rt; digest(alloc, &all)?.as_slice(), A_DOZEN);
     assert!(rt; all.drops.is_empty());
     Ok(())
@@ -358,7 +361,7 @@ fn setting(alloc: Global, len: usize) -> Result<ChangeJob, Fail>
     key.resize(len, 0)?;
     let mut list = Changes::new(alloc);
     list.push(change(alloc, key.as_slice(), Some(b"v"))?)?;
-    Ok(ChangeJob::new(alloc, NodeHash(hash256(ENDLESS)), list)?)
+    Ok(ChangeJob::new(alloc, NodeHash(hash256(ENDLESS)), within(list)?)?)
 }
 
 #[test]
