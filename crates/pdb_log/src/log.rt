@@ -1,8 +1,8 @@
-ghost use Rattle.std.specs.Prelude.{◌≡◌, ◌≢◌, ◌≤◌, ◌<◌, ◌+◌, ◌-◌, ◌^◌, ◌++◌, ◌↔◌, ℕ, List, [], ◌∷◌, All, Contains, IfErr, IfOk, IsErr, IsErrOf, OnOk, false, is_err, length, slice_get, slice_index, Some, if◌then◌else◌};
+ghost use Rattle.std.specs.Prelude.{◌≡◌, ◌≢◌, ◌≤◌, ◌<◌, ◌+◌, ◌-◌, ◌^◌, ◌++◌, ◌↔◌, ℕ, List, [], ◌∷◌, All, Contains, IfErr, IfOk, IsErr, IsErrOf, OnErr, OnOk, false, is_err, length, slice_get, slice_index, Some, if◌then◌else◌};
 ghost use Rattle.sdb_io.specs.Faults.{CountsFault};
 ghost use Rattle.pdb_cells.specs.Puts.{IsWholeCell, NoCellTwice};
 ghost use Rattle.pdb_cells.specs.declared.Put.{Put};
-ghost use Rattle.pdb_disk.specs.Files.{Begins, Settles, StandsAt, done};
+ghost use Rattle.pdb_disk.specs.Files.{Begins, Elapses, MayBegin, Settles, StandsAt, done};
 ghost use Rattle.pdb_disk.specs.Files.{Step as step};
 ghost use Rattle.pdb_disk.specs.Moments.{Moments};
 ghost use Rattle.pdb_model.specs.Logs.{IsLogFile, gate_file, most_in_log};
@@ -337,6 +337,7 @@ impl<D: Disk> Log<D> {
             → StandsAt (D.past self.old.disk (D.clock self.old.disk) file).read at into.new) }
         ensures time { D.clock self.new.disk ≡ D.clock self.old.disk }
         ensures unchanged { D.past self.new.disk ≡ D.past self.old.disk }
+        ensures told { D.tells self.old.disk → D.tells self.new.disk }
         ensures fault { IfErr result (λ e. e ≡ DiskFault.Read) }
         ensures counted { CountsFault (is_err result) (D.fault_count self.old.disk) (D.fault_count self.new.disk) }
         ensures reads { D.read_count self.old.disk ≤ D.read_count self.new.disk }
@@ -359,10 +360,14 @@ impl<D: Disk> Log<D> {
         ensures any_moment { (l : Ledger) → (rows : List Row) → (f : ℕ) → (r : Record) → (p : Put)
             → IsLog D.tells D.clock D.past self.old l rows f → Contains l.flushed r → Contains r.puts p → IsCellAt p file at bytes.now
             → Moments (D.clock self.old.disk) (D.clock self.new.disk) (D.past self.old.disk) (D.past self.new.disk) (Safe rows f) }
+        ensures time { Elapses (D.clock self.old.disk) (D.clock self.new.disk) (D.past self.old.disk) (D.past self.new.disk) }
         ensures begun { OnOk result (D.tells self.old.disk → Begins file (step.Write at bytes.now)
             (D.past self.old.disk (D.clock self.old.disk)) (D.past self.new.disk (D.clock self.new.disk))) }
         ensures written { OnOk result (D.tells self.old.disk → (D.past self.new.disk (D.clock self.new.disk) file).read
             ≡ done (D.past self.old.disk (D.clock self.old.disk) file).read (step.Write at bytes.now)) }
+        ensures failed { OnErr result (D.tells self.old.disk → MayBegin file (step.Write at bytes.now)
+            (D.past self.old.disk (D.clock self.old.disk)) (D.past self.new.disk (D.clock self.new.disk))) }
+        ensures told { D.tells self.old.disk → D.tells self.new.disk }
         ensures fault { IfErr result (λ e. e ≡ DiskFault.Write) }
         ensures counted { CountsFault (is_err result) (D.fault_count self.old.disk) (D.fault_count self.new.disk) }
         ensures reads { D.read_count self.new.disk ≡ D.read_count self.old.disk }
@@ -380,8 +385,12 @@ impl<D: Disk> Log<D> {
             → IsLog D.tells D.clock D.past self.new l rows f }
         ensures any_moment { (l : Ledger) → (rows : List Row) → (f : ℕ) → IsLog D.tells D.clock D.past self.old l rows f
             → Moments (D.clock self.old.disk) (D.clock self.new.disk) (D.past self.old.disk) (D.past self.new.disk) (Safe rows f) }
+        ensures time { Elapses (D.clock self.old.disk) (D.clock self.new.disk) (D.past self.old.disk) (D.past self.new.disk) }
         ensures synced { OnOk result (D.tells self.old.disk
             → Settles file (D.past self.old.disk (D.clock self.old.disk)) (D.past self.new.disk (D.clock self.new.disk))) }
+        ensures failed { OnErr result (D.tells self.old.disk
+            → D.past self.new.disk (D.clock self.new.disk) ≡ D.past self.old.disk (D.clock self.old.disk)) }
+        ensures told { D.tells self.old.disk → D.tells self.new.disk }
         ensures fault { IfErr result (λ e. e ≡ DiskFault.Sync) }
         ensures counted { CountsFault (is_err result) (D.fault_count self.old.disk) (D.fault_count self.new.disk) }
         ensures reads { D.read_count self.new.disk ≡ D.read_count self.old.disk }

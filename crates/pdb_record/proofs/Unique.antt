@@ -1,5 +1,6 @@
 -- Bytes begin with one record at most.
-use Rattle.std.proofs.Common.{◌≡◌, ◌+◌, ◌^◌, ◌<◌, ◌≤◌, ℕ, List, [], ◌∷◌, ◌++◌, length, take, drop, refl, sym, ap, ◌∙◌, arith, append-nil}
+use Rattle.std.proofs.Common.{◌≡◌, ◌+◌, ℕ, List, [], ◌++◌, take, sym, ap, ◌∙◌, arith, append-nil}
+use Rattle.std.specs.Prelude.{All, slice_range}
 use Rattle.pdb_cells.specs.Puts.{IsWholeCell}
 use Rattle.pdb_cells.specs.declared.Put.{Put}
 use Rattle.pdb_model.specs.Records.{HasRecord, Record, body_bytes, header_bytes}
@@ -8,15 +9,14 @@ use Rattle.pdb_record.specs.declared.heads.Head.{Head}
 use Rattle.pdb_record.proofs.Fields.{ReadsHead, one_head}
 use Rattle.pdb_record.proofs.Grammar.{Parts, head_of, parts, same_body}
 use Rattle.pdb_record.proofs.Splits.{Later, later_of, none_left}
-use Rattle.std.specs.List.{All}
 
 reads_of_header : (bytes : List ℕ) (h : Head) → IsHeaderOf bytes h → ReadsHead bytes h
 unfolding header_bytes
 reads_of_header bytes h is = record {
-  number = ap (λ b. Rattle.std.specs.Prelude.slice_range b 8 (8 + 8)) (sym is.spelled);
-  commits = ap (λ b. Rattle.std.specs.Prelude.slice_range b 16 (16 + 8)) (sym is.spelled);
-  body = ap (λ b. Rattle.std.specs.Prelude.slice_range b 24 (24 + 8)) (sym is.spelled);
-  puts = ap (λ b. Rattle.std.specs.Prelude.slice_range b 32 (32 + 8)) (sym is.spelled);
+  number = ap (λ b. slice_range b 8 (8 + 8)) (sym is.spelled);
+  commits = ap (λ b. slice_range b 16 (16 + 8)) (sym is.spelled);
+  body = ap (λ b. slice_range b 24 (24 + 8)) (sym is.spelled);
+  puts = ap (λ b. slice_range b 32 (32 + 8)) (sym is.spelled);
   small_number = is.is.narrow_number;
   small_commits = is.is.narrow_commits;
   small_body = omega (arith, is.is.short);
