@@ -1,9 +1,10 @@
-ghost use Rattle.std.specs.Prelude.{IfOk, IsTrue};
+ghost use Rattle.std.specs.Prelude.{All, IfOk, IsTrue};
+ghost use Rattle.sdb_base.specs.Keeping.{HasShortKey};
 ghost use Rattle.trie_change.specs.Changing.{KeepsLimits};
 ghost use Rattle.trie_model.specs.Limits.{ChangeIsWithin, ChangesAreWithin};
 
 use crate::example_nodes::{AT_1, AT_2, AT_100, AT_203, AT_1000, AT_2031, AT_A, AT_AA, ROOT};
-use sdb_base::{Bytes, Change, Changes, Keeper, MapKeeper, NodeHash, Op, Ops};
+use sdb_base::{Bytes, Change, Changes, Keeper, MapKeeper, NodeHash, Op, Ops, OutOfMemory};
 use sdb_blake2::hash256;
 use std::alloc::Global;
 use std::test::*;
@@ -230,20 +231,32 @@ fn dozen(alloc: Global) -> Result<Changes, Fail> {
     Ok(changes)
 }
 
+fn adding(alloc: Global, node: &[u8]) -> Result<Ops, OutOfMemory>
+    ensures { IfOk result (All HasShortKey) }
+{
+    let mut ops = Ops::new(alloc);
+    ops.push(Op::AddRef {
+        key: NodeHash(hash256(node)),
+        bytes: Bytes::from_slice(alloc, node)?,
+    })?;
+    Ok(ops)
+}
+
+fn commit<K: Keeper>(keeper: &mut K, ops: Ops) -> bool
+    requires { All HasShortKey ops }
+{
+    keeper.commit(ops).is_ok()
+}
+
 // A keeper of these nodes.
 fn keeper(alloc: Global, nodes: &[&[u8]]) -> Result<MapKeeper, Fail> {
-    let mut ops = Ops::new(alloc);
-    for node in nodes {
-        ops.push(Op::AddRef {
-            key: NodeHash(hash256(node)),
-            bytes: Bytes::from_slice(alloc, node)?,
-        })?;
-    }
     let mut keeper = MapKeeper::new(alloc);
-    match keeper.commit(ops) {
-        Ok(_) => Ok(keeper),
-        Err(_) => Err(Fail::new("a commit is refused")),
+    for node in nodes {
+        if !commit(&mut keeper, adding(alloc, node)?) {
+            return Err(Fail::new("a commit is refused"));
+        }
     }
+    Ok(keeper)
 }
 
 // The job, fed with its wanted node from the keeper, whose hash is this one.
