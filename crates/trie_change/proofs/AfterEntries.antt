@@ -1,7 +1,7 @@
 -- The entries of a state after changes are within the limits.
-use Rattle.std.proofs.Common.{◌≡◌, ℕ, ◌+◌, ◌*◌, ◌/◌, ◌<◌, ◌≤◌, List, [], ◌∷◌, length, map, Option, Some, None, refl, ap, subst, sym, ◌∙◌, inl, inr, arith}
+use Rattle.std.proofs.Common.{◌≡◌, ℕ, ◌/◌, ◌<◌, ◌≤◌, List, [], ◌∷◌, length, map, Option, Some, None, refl, ap, subst, sym, ◌∙◌, inl, inr, arith}
 use Rattle.std.specs.Prelude.{All, IfSome}
-use Rattle.std.specs.FinMap.{empty, entries, entries_sorted, find, get, get-entries}
+use Rattle.std.specs.FinMap.{empty, entries, entries_sorted, get, get-entries}
 use Rattle.std.specs.List.{AllByRecursion}
 use Rattle.std.proofs.lemmas.List.Elements.{All-from_recursion, recursion_from_All}
 use Rattle.sdb_base.specs.Nibbles.{nibbles_of}
@@ -15,12 +15,11 @@ use Rattle.trie_root.proofs.Nibble.{length-nibbles_of}
 use Rattle.trie_read.proofs.Among.{Among}
 use Rattle.trie_change.specs.Changing.{IsLimitedSetting}
 use Rattle.trie_change.specs.declared.settings.Setting.{Setting}
-use Rattle.trie_change.specs.inner.InOrder.{set_pair, set_pairs}
+use Rattle.trie_change.specs.inner.InOrder.{set_pairs}
 use Rattle.trie_change.specs.inner.Merged.{HasBytes}
 use Rattle.trie_change.specs.inner.Stages.{set_by, set_from}
 use Rattle.trie_change.proofs.MergedSteps.{Setted, overlaid}
 use Rattle.trie_change.proofs.Nibbled.{entry_found, found_itself}
-use Rattle.trie_change.proofs.Orders.{key_cmp}
 use Rattle.trie_change.proofs.SetBy.{after_at}
 
 bytes_again : (k : List ℕ) → AllByRecursion (λ n. n < 16) (nibbles_of k) → AllByRecursion (λ b. b < 256) k

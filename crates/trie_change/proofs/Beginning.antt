@@ -1,11 +1,9 @@
 -- A job before its first node.
-use Rattle.std.proofs.Common.{◌≡◌, ◌⊎◌, ℕ, Bool, true, false, List, [], ◌∷◌, ◌++◌, map, reverse, Option, Some, None, refl, ap, ap₂, subst, sym, ◌∙◌, inl, inr}
+use Rattle.std.proofs.Common.{◌≡◌, ℕ, true, false, List, [], ◌∷◌, map, reverse, Option, None, refl, ap, subst, sym, ◌∙◌, inl}
 use Rattle.std.specs.Prelude.{◌||◌, All, filter, is_some}
-use Rattle.std.specs.FinMap.{empty, entries, entries_sorted, find, get, get-empty, get-entries}
+use Rattle.std.specs.FinMap.{empty, entries, entries_sorted, find, get, get-entries}
 use Rattle.std.specs.FinMap.Entries.{same_entries}
-use Rattle.std.specs.List.{AllByRecursion, flat_map, list_any}
-use Rattle.std.specs.Ordering.{nat_cmp}
-use Rattle.std.specs.Cmp.Lexicographic.{slice_cmp}
+use Rattle.std.specs.List.{AllByRecursion, list_any}
 use Rattle.std.specs.Str.{bytes_eq}
 use Rattle.std.proofs.lemmas.Cmp.{nat_list_cmp_total}
 use Rattle.std.proofs.lemmas.List.{append-nil}
@@ -33,7 +31,7 @@ use Rattle.trie_change.specs.declared.frontier.Stub.{Stub}
 use Rattle.trie_change.specs.declared.settings.Setting.{Setting}
 use Rattle.trie_change.specs.inner.InOrder.{set_pairs, stubs_of}
 use Rattle.trie_change.specs.inner.Merged.{HasBytes, IsMerged}
-use Rattle.trie_change.specs.inner.Stages.{IsCarriedOut, IsHeld, IsOnTheWay, IsSplit, IsUnderWay, JobParts, all_under, set_by, set_from, stored_under}
+use Rattle.trie_change.specs.inner.Stages.{IsCarriedOut, IsHeld, IsSplit, IsUnderWay, all_under, set_by, set_from, stored_under}
 use Rattle.trie_change.proofs.AfterEntries.{entries_after, none_within}
 use Rattle.trie_change.proofs.CarriedOver.{frontier_after, stubs_stay}
 use Rattle.trie_change.proofs.MergedSteps.{Setted, same_key}

@@ -1,7 +1,7 @@
 -- What is set is carried out on items that are all off the way.
-use Rattle.std.proofs.Common.{◌≡◌, ◌⊎◌, ℕ, Bool, true, false, List, [], ◌∷◌, ◌++◌, map, reverse, Option, T, refl, ap, ap₂, subst, sym, ◌∙◌, inl, inr}
-use Rattle.std.specs.Prelude.{◌||◌, nat_eq}
-use Rattle.std.specs.List.{AllByRecursion, flat_map, list_any, starts_with}
+use Rattle.std.proofs.Common.{◌≡◌, ℕ, Bool, false, List, [], ◌∷◌, ◌++◌, reverse, Option, T, refl, ap, ap₂, subst, sym, ◌∙◌, inl, inr}
+use Rattle.std.specs.Prelude.{nat_eq}
+use Rattle.std.specs.List.{AllByRecursion, list_any, starts_with}
 use Rattle.std.specs.FinMap.{find, is_sorted}
 use Rattle.std.specs.FinMap.Entries.{same_entries}
 use Rattle.std.proofs.lemmas.Cmp.{nat_list_cmp_total}
@@ -12,13 +12,12 @@ use Rattle.sdb_base.specs.declared.Change.{Change}
 use Rattle.sdb_blake2.specs.Blake2b.{H}
 use Rattle.trie_model.specs.Fetches.{is_changed}
 use Rattle.trie_model.specs.Node.{spelling}
-use Rattle.trie_model.specs.Nodes.{PathNode, is_stored}
+use Rattle.trie_model.specs.Nodes.{is_stored}
 use Rattle.trie_model.specs.State.{State, apply}
 use Rattle.trie_model.specs.Trie.{Suffix, below, node_of_all, suffixes_of, with_prefix}
 use Rattle.trie_root.proofs.ReadOffStates.{suffixes_sorted}
-use Rattle.trie_read.proofs.Among.{Among}
 use Rattle.trie_change.specs.ChangedKeys.{keys_in_changes}
-use Rattle.trie_change.specs.Frontier.{IsFrontier, IsItem, IsStub, is_at_stub, suffixes_for}
+use Rattle.trie_change.specs.Frontier.{IsFrontier, IsItem, IsStub, is_at_stub}
 use Rattle.trie_change.specs.declared.frontier.Item.{Item}
 use Rattle.trie_change.specs.declared.frontier.Item.TheVariants as item
 use Rattle.trie_change.specs.declared.frontier.Stub.{Stub}

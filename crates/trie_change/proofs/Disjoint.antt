@@ -1,5 +1,5 @@
 -- Items that stand for suffixes one after the other have none of their stubs above another.
-use Rattle.std.proofs.Common.{◌≡◌, ℕ, zero, suc, ◌+◌, Bool, true, false, eqb, cond, List, [], ◌∷◌, ◌++◌, length, Option, Some, None, refl, ap, ap₂, subst, sym, ◌∙◌, arith, append_assoc, eq-eqb, length-append}
+use Rattle.std.proofs.Common.{◌≡◌, ℕ, ◌+◌, Bool, true, false, eqb, List, [], ◌∷◌, ◌++◌, length, Option, Some, None, refl, ap, sym, ◌∙◌, arith, eq-eqb, length-append}
 use Rattle.std.specs.Prelude.{◌||◌, nat_eq, is_some}
 use Rattle.std.specs.List.{flat_map, list_any, starts_with}
 use Rattle.trie_model.specs.Trie.{Suffix, after_prefix, below, with_prefix}
@@ -9,7 +9,6 @@ use Rattle.trie_read.proofs.Ways.{follows, on_its_way, put_back}
 use Rattle.trie_change.specs.Frontier.{is_at_stub, suffixes_for}
 use Rattle.trie_change.specs.declared.frontier.Item.{Item}
 use Rattle.trie_change.specs.declared.frontier.Item.TheVariants as item
-use Rattle.trie_change.specs.declared.frontier.Stub.{Stub}
 use Rattle.trie_change.proofs.CarriedStep.{no_items}
 
 -- ---- nibbles that begin others

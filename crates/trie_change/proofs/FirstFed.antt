@@ -1,20 +1,18 @@
 -- The wanted node is the first of those that are to be fed, and takes no place once it is fed.
-use Rattle.std.proofs.Common.{◌≡◌, ℕ, true, false, List, [], ◌∷◌, ◌++◌, length, reverse, Option, Some, None, refl, ap, ap₂, subst, sym, ◌∙◌, inl, inr}
+use Rattle.std.proofs.Common.{◌≡◌, ℕ, true, false, List, [], ◌∷◌, ◌++◌, length, reverse, Some, ap, ap₂, subst, sym, ◌∙◌}
 use Rattle.std.specs.Prelude.{All, Ok, filter}
 use Rattle.std.specs.FinMap.{entries}
-use Rattle.std.specs.List.{AllByRecursion, flat_map}
-use Rattle.std.proofs.lemmas.List.{append-nil, reverse-append, reverse-reverse}
+use Rattle.std.specs.List.{AllByRecursion}
+use Rattle.std.proofs.lemmas.List.{reverse-append, reverse-reverse}
 use Rattle.std.proofs.lemmas.List.Concat.{flat_map-append}
 use Rattle.sdb_base.specs.declared.Change.{Change}
-use Rattle.sdb_blake2.specs.Blake2b.{H}
-use Rattle.trie_model.specs.Fetches.{for_change, is_changed, is_unhung}
+use Rattle.trie_model.specs.Fetches.{for_change, is_changed}
 use Rattle.trie_model.specs.Node.{Node}
 use Rattle.trie_model.specs.Nodes.{PathNode, all_nodes, is_stored}
 use Rattle.trie_model.specs.State.{State, apply}
 use Rattle.trie_model.specs.Trie.{Suffix, suffixes_of}
 use Rattle.trie_codec.specs.Reading.{node_of_bytes}
 use Rattle.trie_root.specs.Suffixes.{IsEntry}
-use Rattle.trie_root.proofs.ShapesBytes.{all_joined}
 use Rattle.trie_read.specs.Depth.{is_bad_node}
 use Rattle.trie_read.specs.Paths.{Hangs}
 use Rattle.trie_read.proofs.Binding.{sound_state}
@@ -34,8 +32,8 @@ use Rattle.trie_change.specs.inner.Known.{all_known, known_in}
 use Rattle.trie_change.specs.inner.Stages.{IsHeld, IsOffKeys, all_under, set_by, stored_under}
 use Rattle.trie_change.proofs.CarriedOver.{to_off_stubs}
 use Rattle.trie_change.proofs.HungUnder.{hung_none, path_not_there}
-use Rattle.trie_change.proofs.OffWay.{at_path, changed_first, left_out, off_none, unhung_first}
-use Rattle.trie_change.proofs.OneTaken.{ComesFirst, held_after, is_first, others, stub_is}
+use Rattle.trie_change.proofs.OffWay.{changed_first, left_out, off_none, unhung_first}
+use Rattle.trie_change.proofs.OneTaken.{ComesFirst, held_after, is_first, stub_is}
 use Rattle.trie_change.proofs.Opened.{IsOpen, opened}
 use Rattle.trie_change.proofs.SetBy.{begins_changed}
 

@@ -1,6 +1,6 @@
 -- A job goes on after items were moved.
-use Rattle.std.proofs.Common.{◌≡◌, ℕ, suc, Bool, true, false, eqb, List, [], ◌∷◌, ◌++◌, length, reverse, Option, Some, None, refl, ap, subst, sym, ◌∙◌, arith}
-use Rattle.std.specs.Prelude.{IfSome, is_some}
+use Rattle.std.proofs.Common.{◌≡◌, ℕ, suc, Bool, true, false, eqb, List, [], ◌∷◌, length, reverse, Option, Some, None, refl, ap, sym, ◌∙◌, arith}
+use Rattle.std.specs.Prelude.{is_some}
 use Rattle.std.specs.List.{AllByRecursion}
 use Rattle.sdb_base.specs.declared.Change.{Change}
 use Rattle.trie_model.specs.Nodes.{PathNode}
@@ -9,11 +9,10 @@ use Rattle.trie_change.specs.declared.frontier.Fed.{Fed}
 use Rattle.trie_change.specs.declared.frontier.Item.{Item}
 use Rattle.trie_change.specs.declared.frontier.Stub.{Stub}
 use Rattle.trie_change.specs.declared.settings.Setting.{Setting}
-use Rattle.trie_change.specs.inner.InOrder.{IsOff, begins_one, in_place}
+use Rattle.trie_change.specs.inner.InOrder.{IsOff, in_place}
 use Rattle.trie_change.specs.inner.Merged.{IsMerged}
-use Rattle.trie_change.specs.inner.Stages.{IsCarriedOut, IsOnTheWay, IsUnderWay, JobParts}
-use Rattle.trie_change.proofs.CarriedStep.{no_items}
-use Rattle.trie_change.proofs.StageMoves.{carried, is_on_the_way, moved_there, under_way_there}
+use Rattle.trie_change.specs.inner.Stages.{IsCarriedOut, IsOnTheWay, IsUnderWay}
+use Rattle.trie_change.proofs.StageMoves.{carried, is_on_the_way, moved_there}
 
 pub no_settings : {X : Type 0} (xs : List X) (n : ℕ) (b : Bool) → n ≡ length xs → b ≡ eqb n 0 → b ≡ true → xs ≡ []
 no_settings [] n b e f g = refl

@@ -1,7 +1,7 @@
 -- What the test of a stub's neighbours says.
-use Rattle.std.proofs.Common.{◌≡◌, ◌⊎◌, ℕ, zero, suc, ◌+◌, ◌-◌, Bool, true, false, List, [], ◌∷◌, ◌++◌, length, reverse, take, T, Option, Some, None, refl, ap, ap₂, subst, sym, ◌∙◌, inl, inr, arith, append_assoc, length-append}
-use Rattle.std.specs.Prelude.{◌||◌, nat_eq}
-use Rattle.std.specs.List.{AllByRecursion, flat_map, list_any, slice_get, starts_with}
+use Rattle.std.proofs.Common.{◌≡◌, ◌⊎◌, ℕ, ◌-◌, Bool, true, false, List, [], ◌∷◌, ◌++◌, length, reverse, take, Option, Some, None, refl, ap, ap₂, subst, sym, ◌∙◌, inl, inr, arith, length-append}
+use Rattle.std.specs.Prelude.{◌||◌}
+use Rattle.std.specs.List.{AllByRecursion, list_any, slice_get}
 use Rattle.std.proofs.lemmas.List.{append-nil, reverse-append}
 use Rattle.std.proofs.lemmas.List.Concat.{flat_map-append}
 use Rattle.trie_model.specs.Trie.{Suffix, below, common_prefix, with_prefix}
@@ -12,7 +12,7 @@ use Rattle.trie_change.specs.Frontier.{IsFrontier, IsItem, is_at_stub, suffixes_
 use Rattle.trie_change.specs.declared.frontier.Item.{Item}
 use Rattle.trie_change.specs.declared.frontier.Item.TheVariants as item
 use Rattle.trie_change.specs.declared.frontier.Stub.{Stub}
-use Rattle.trie_change.specs.inner.InOrder.{goes_on_from, hangs_between, path_of_item}
+use Rattle.trie_change.specs.inner.InOrder.{item_goes_on, hangs_between}
 use Rattle.trie_change.proofs.Disjoint.{none_around, not_above}
 use Rattle.trie_change.proofs.Neighbours.{all_for, first_tells, first_there_too, last_tells, last_there}
 use Rattle.trie_change.proofs.Sides.{part_there, same_front, share_there}
@@ -65,11 +65,11 @@ module _ (ss : List Suffix) (s : Sound ss) (p q : List ℕ) (y : ℕ) (path : p 
 
   -- by the last item that was found
   by_last : (o : Option Item) → slice_get found (length found - 1) ≡ o
-      → (goes_on_from q o ≡ true → below q (all_for ss found) ≡ [] → ⊥) × ((below q (all_for ss found) ≡ [] → ⊥) → goes_on_from q o ≡ true)
+      → (item_goes_on q o ≡ true → below q (all_for ss found) ≡ [] → ⊥) × ((below q (all_for ss found) ≡ [] → ⊥) → item_goes_on q o ≡ true)
   by_last o e = elim (ends_or_none found) [
     | inl nothing ↦
         let no : o ≡ None = sym e ∙ ap (λ (xs : List Item). slice_get xs (length xs - 1)) nothing in (
-          λ yes. let f : false ≡ true = ap (goes_on_from q) (sym no) ∙ yes in absurd cc,
+          λ yes. let f : false ≡ true = ap (item_goes_on q) (sym no) ∙ yes in absurd cc,
           λ more. absurd (more (ap (λ (xs : List Item). below q (all_for ss xs)) nothing)),
         )
     | inr more ↦
@@ -82,15 +82,15 @@ module _ (ss : List Suffix) (s : Sound ss) (p q : List ℕ) (y : ℕ) (path : p 
         (neither_true (is_at_stub p a) false (any_joined (is_at_stub p) more.0 (a ∷ []) (ap (list_any (is_at_stub p)) (sym more.2) ∙ not_above ss p found none.0 some))).0 in
         let joined_up : (all_for ss more.0 ++ suffixes_for ss a) ++ (with_prefix p (below p ss) ++ all_for ss rest) ≡ ss =
         ap (λ (xs : List Suffix). xs ++ (with_prefix p (below p ss) ++ all_for ss rest)) (sym all) ∙ whole in (
-          λ yes z. last_there ss s.sorted p q y path some more.0 a (all_for ss rest) is off joined_up (ap (goes_on_from q) (sym is_last) ∙ yes) (ap (below q) (sym all) ∙ z),
-          λ z. ap (goes_on_from q) is_last ∙ last_tells ss s.sorted p q y path some more.0 a (all_for ss rest) is off joined_up (λ w. z (ap (below q) all ∙ w)),
+          λ yes z. last_there ss s.sorted p q y path some more.0 a (all_for ss rest) is off joined_up (ap (item_goes_on q) (sym is_last) ∙ yes) (ap (below q) (sym all) ∙ z),
+          λ z. ap (item_goes_on q) is_last ∙ last_tells ss s.sorted p q y path some more.0 a (all_for ss rest) is off joined_up (λ w. z (ap (below q) all ∙ w)),
         )
   ]
 
   by_first : (items : List Item) → rest ≡ items → (o : Option Item) → slice_get items 0 ≡ o
-      → (goes_on_from q o ≡ true → below q (all_for ss rest) ≡ [] → ⊥) × ((below q (all_for ss rest) ≡ [] → ⊥) → goes_on_from q o ≡ true)
+      → (item_goes_on q o ≡ true → below q (all_for ss rest) ≡ [] → ⊥) × ((below q (all_for ss rest) ≡ [] → ⊥) → item_goes_on q o ≡ true)
   by_first [] are o e = (
-    λ yes. let f : false ≡ true = ap (goes_on_from q) e ∙ yes in absurd cc,
+    λ yes. let f : false ≡ true = ap (item_goes_on q) e ∙ yes in absurd cc,
     λ more. absurd (more (ap (λ (xs : List Item). below q (all_for ss xs)) are)),
   )
   by_first (b ∷ items) are o e =
@@ -99,25 +99,25 @@ module _ (ss : List Suffix) (s : Sound ss) (p q : List ℕ) (y : ℕ) (path : p 
       (neither_true (is_at_stub p b) (list_any (is_at_stub p) items) (ap (list_any (is_at_stub p)) (sym are) ∙ not_above ss p rest none.1 some)).0 in
       let joined_up : all_for ss found ++ (with_prefix p (below p ss) ++ all_for ss (b ∷ items)) ≡ ss =
       ap (λ (xs : List Item). all_for ss found ++ (with_prefix p (below p ss) ++ all_for ss xs)) (sym are) ∙ whole in (
-        λ yes z. first_there_too ss s.sorted p q y path some (all_for ss found) b items is off joined_up (ap (goes_on_from q) e ∙ yes)
+        λ yes z. first_there_too ss s.sorted p q y path some (all_for ss found) b items is off joined_up (ap (item_goes_on q) e ∙ yes)
             (ap (λ (xs : List Item). below q (all_for ss xs)) (sym are) ∙ z),
-        λ z. ap (goes_on_from q) (sym e) ∙ first_tells ss s.sorted p q y path some (all_for ss found) b items is off joined_up
+        λ z. ap (item_goes_on q) (sym e) ∙ first_tells ss s.sorted p q y path some (all_for ss found) b items is off joined_up
             (λ w. z (ap (λ (xs : List Item). below q (all_for ss xs)) are ∙ w)),
       )
 
-  pub between_hangs : (o n : Option Item) → slice_get found (length found - 1) ≡ o → slice_get rest 0 ≡ n → (goes_on_from q o || goes_on_from q n) ≡ true → Hangs ss p
+  pub between_hangs : (o n : Option Item) → slice_get found (length found - 1) ≡ o → slice_get rest 0 ≡ n → (item_goes_on q o || item_goes_on q n) ≡ true → Hangs ss p
   between_hangs o n last first e =
       let at : below (q ++ y ∷ []) ss ≡ below p ss = ap (λ (r : List ℕ). below r ss) (sym path) in
       let parts : common_prefix (below q ss) ≡ [] =
       part_there ss q y (all_for ss found) (all_for ss rest)
       (subst (λ (r : List ℕ). all_for ss found ++ (with_prefix r (below r ss) ++ all_for ss rest) ≡ ss) path whole) (λ z. some (sym at ∙ z))
-      (elim (either_true (goes_on_from q o) (goes_on_from q n) e) [
+      (elim (either_true (item_goes_on q o) (item_goes_on q n) e) [
         | inl does ↦ inl ((by_last o last).0 does)
         | inr does ↦ inr ((by_first rest refl n first).0 does)
       ]) in
       inr (q, y, path, parts, some)
 
-  pub hangs_not_between : (o n : Option Item) → slice_get found (length found - 1) ≡ o → slice_get rest 0 ≡ n → (goes_on_from q o || goes_on_from q n) ≡ false → Hangs ss p → ⊥
+  pub hangs_not_between : (o n : Option Item) → slice_get found (length found - 1) ≡ o → slice_get rest 0 ≡ n → (item_goes_on q o || item_goes_on q n) ≡ false → Hangs ss p → ⊥
   hangs_not_between o n last first e (inl root) =
       let no : q ++ y ∷ [] ≡ [] = sym path ∙ root in some_end q y no
     where
@@ -127,12 +127,12 @@ module _ (ss : List Suffix) (s : Sound ss) (p q : List ℕ) (y : ℕ) (path : p 
   hangs_not_between o n last first e (inr h) =
       let at : below (q ++ y ∷ []) ss ≡ below p ss = ap (λ (r : List ℕ). below r ss) (sym path) in
       let same : h.0 ≡ q = same_front h.0 q h.1 y (sym h.2 ∙ path) in
-      let off : (goes_on_from q o ≡ false) × (goes_on_from q n ≡ false) = neither_true (goes_on_from q o) (goes_on_from q n) e in
+      let off : (item_goes_on q o ≡ false) × (item_goes_on q n ≡ false) = neither_true (item_goes_on q o) (item_goes_on q n) e in
       let empty : (us : List Suffix) (b : Bool) → b ≡ false → ((us ≡ [] → ⊥) → b ≡ true) → us ≡ [] = λ us b f g. by_list us b f g in
       share_there ss q y (all_for ss found) (all_for ss rest)
       (subst (λ (r : List ℕ). all_for ss found ++ (with_prefix r (below r ss) ++ all_for ss rest) ≡ ss) path whole) (λ z. some (sym at ∙ z))
-      (empty (below q (all_for ss found)) (goes_on_from q o) off.0 (by_last o last).1)
-      (empty (below q (all_for ss rest)) (goes_on_from q n) off.1 (by_first rest refl n first).1)
+      (empty (below q (all_for ss found)) (item_goes_on q o) off.0 (by_last o last).1)
+      (empty (below q (all_for ss rest)) (item_goes_on q n) off.1 (by_first rest refl n first).1)
       (ap (λ (r : List ℕ). common_prefix (below r ss)) (sym same) ∙ h.3)
     where
       by_list : (us : List Suffix) (b : Bool) → b ≡ false → ((us ≡ [] → ⊥) → b ≡ true) → us ≡ []

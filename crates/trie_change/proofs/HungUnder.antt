@@ -1,14 +1,14 @@
 -- Where a stub hangs, all nodes under it hang, and none of them is to be fetched.
-use Rattle.std.proofs.Common.{◌≡◌, ◌⊎◌, ℕ, ◌≤◌, Bool, true, false, List, [], ◌∷◌, ◌++◌, refl, ap, ap₂, subst, sym, ◌∙◌, inl, inr, arith, append_assoc}
+use Rattle.std.proofs.Common.{◌≡◌, ℕ, Bool, true, false, List, [], ◌∷◌, ◌++◌, refl, ap, subst, sym, ◌∙◌, inl, inr, arith, append_assoc}
 use Rattle.std.specs.Prelude.{◌&&◌, filter, not}
-use Rattle.std.specs.List.{AllByRecursion, flat_map}
+use Rattle.std.specs.List.{AllByRecursion}
 use Rattle.std.proofs.lemmas.List.{append-nil}
 use Rattle.trie_model.specs.Fetches.{is_changed, is_unhung}
 use Rattle.trie_model.specs.Nodes.{PathNode, all_over, has_path, is_stored, nodes_over}
 use Rattle.trie_model.specs.Trie.{Suffix, below, common_prefix, levels_of}
 use Rattle.trie_root.proofs.Prefixes.{below-append}
 use Rattle.trie_root.proofs.ShapesBytes.{all_joined}
-use Rattle.trie_read.specs.Paths.{AreNibbles, Hangs, IsHung}
+use Rattle.trie_read.specs.Paths.{AreNibbles, Hangs}
 use Rattle.trie_read.proofs.Among.{Among, among_kept}
 use Rattle.trie_read.proofs.Hanging.{Hung, hung_from}
 use Rattle.trie_read.proofs.Stored.{among_hung, is_hung}

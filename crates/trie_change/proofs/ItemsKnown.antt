@@ -1,5 +1,5 @@
 -- What is known, as items.
-use Rattle.std.proofs.Common.{◌≡◌, ℕ, Bool, true, false, eqb, eq-eqb, List, [], ◌∷◌, ◌++◌, map, refl, ap, ap₂, subst, sym, ◌∙◌, inl, inr}
+use Rattle.std.proofs.Common.{◌≡◌, ℕ, Bool, true, false, eqb, eq-eqb, List, [], ◌∷◌, ◌++◌, refl, ap, ap₂, sym, ◌∙◌, inr}
 use Rattle.std.specs.Prelude.{◌||◌, nat_eq}
 use Rattle.std.specs.List.{AllByRecursion, flat_map, list_any, starts_with}
 use Rattle.trie_model.specs.Nodes.{PathNode}
@@ -8,7 +8,7 @@ use Rattle.trie_change.specs.Frontier.{IsItem, is_at_stub, suffixes_for}
 use Rattle.trie_change.specs.declared.frontier.Item.{Item}
 use Rattle.trie_change.specs.declared.frontier.Item.TheVariants as item
 use Rattle.trie_change.specs.inner.InOrder.{IsBelowRoot}
-use Rattle.trie_change.specs.inner.Known.{Known, all_known, known_of}
+use Rattle.trie_change.specs.inner.Known.{all_known, known_of}
 use Rattle.trie_change.specs.inner.Stages.{all_under, stored_under}
 use Rattle.trie_change.proofs.LongerPaths.{begins_longer, begins_through}
 use Rattle.trie_change.proofs.KnownDeeper.{IsDeeper}

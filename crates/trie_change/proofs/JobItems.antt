@@ -1,18 +1,18 @@
 -- Where nothing is wanted any more, the items that are known and the nodes that were fed suffice.
-use Rattle.std.proofs.Common.{◌≡◌, ◌⊎◌, ℕ, Bool, true, false, cond, List, [], ◌∷◌, ◌++◌, refl, ap, ap₂, subst, sym, ◌∙◌, inl, inr}
-use Rattle.std.specs.Prelude.{◌↔◌, ◌||◌, All, Contains, IsPermutation, filter, nat_eq, not}
+use Rattle.std.proofs.Common.{◌≡◌, ◌⊎◌, ℕ, Bool, true, false, List, [], ◌∷◌, ◌++◌, refl, ap, subst, sym, ◌∙◌, inl, inr}
+use Rattle.std.specs.Prelude.{◌↔◌, ◌||◌, All, Contains, IsPermutation, filter, not}
 use Rattle.std.specs.FinMap.{entries}
-use Rattle.std.specs.List.{AllByRecursion, flat_map, list_any, starts_with}
+use Rattle.std.specs.List.{AllByRecursion}
 use Rattle.std.proofs.lemmas.List.{append-nil}
 use Rattle.std.proofs.lemmas.List.Elements.{All-from_recursion, recursion_from_All}
 use Rattle.std.proofs.lemmas.List.Sorted.{All-permutation, IsPermutation-refl, IsPermutation-sym}
 use Rattle.sdb_base.specs.declared.Change.{Change}
 use Rattle.trie_model.specs.Fetches.{is_changed}
 use Rattle.trie_model.specs.Nodes.{PathNode, all_nodes, is_stored, nodes_without, stored_nodes}
-use Rattle.trie_model.specs.State.{State, apply, no_keys}
+use Rattle.trie_model.specs.State.{State, apply}
 use Rattle.trie_model.specs.Trie.{Suffix, below, suffixes_of}
 use Rattle.trie_root.specs.Suffixes.{IsEntry}
-use Rattle.trie_read.specs.Paths.{AreNibbles, Hangs, IsHung}
+use Rattle.trie_read.specs.Paths.{AreNibbles, Hangs}
 use Rattle.trie_read.proofs.Among.{Among, among_either, among_from, among_kept, among_left, among_right, contains_from, kept_among}
 use Rattle.trie_read.proofs.Binding.{sound_state}
 use Rattle.trie_read.proofs.Rising.{StartsWith, all_weaker, stored_rise}
@@ -26,7 +26,7 @@ use Rattle.trie_change.specs.declared.frontier.Item.TheVariants as item
 use Rattle.trie_change.specs.declared.frontier.Stub.{Stub}
 use Rattle.trie_change.specs.inner.InOrder.{stubs_of}
 use Rattle.trie_change.specs.inner.Settled.{AreEnough, fed_nodes}
-use Rattle.trie_change.specs.inner.Stages.{IsHeld, IsOffKeys, IsSplit, all_under, stored_under}
+use Rattle.trie_change.specs.inner.Stages.{IsHeld, IsOffKeys, all_under, stored_under}
 use Rattle.trie_change.proofs.Carried.{carried_stored}
 use Rattle.trie_change.proofs.Deeper.{deeper_after, deeper_before}
 use Rattle.trie_change.proofs.Disjoint.{goes_on_from}

@@ -1,5 +1,5 @@
 -- The stored nodes that a node has hang further down than it.
-use Rattle.std.proofs.Common.{◌≡◌, ℕ, zero, suc, Bool, true, false, eqb, leb, cond, List, [], ◌∷◌, ◌++◌, length, get_or, Option, Some, None, refl, ap, subst, sym, ◌∙◌, append_assoc}
+use Rattle.std.proofs.Common.{◌≡◌, ℕ, zero, suc, true, false, eqb, leb, cond, List, [], ◌∷◌, ◌++◌, length, get_or, Option, Some, None, ap, ◌∙◌, append_assoc}
 use Rattle.std.specs.Prelude.{Result, Ok, Err}
 use Rattle.std.specs.List.{AllByRecursion, flat_map}
 use Rattle.trie_model.specs.Node.{Node}
@@ -9,7 +9,6 @@ use Rattle.trie_codec.specs.declared.fault.CodecFault.{CodecFault}
 use Rattle.trie_root.proofs.ShapesBytes.{all_joined}
 use Rattle.trie_read.proofs.Rising.{all_weaker}
 use Rattle.trie_change.specs.inner.Known.{Known, KnownKey, KnownNode, inline_known, known_at, known_in, own_known, stub_known}
-use Rattle.trie_change.proofs.KnownSteps.{known_step}
 
 abbrev pub IsDeeper : List ℕ → Known → Type 0
 IsDeeper p (KnownKey key value) = Unit {0}

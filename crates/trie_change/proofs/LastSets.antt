@@ -1,19 +1,19 @@
 -- What keys are set to last, and the limits of it.
-use Rattle.std.proofs.Common.{◌≡◌, ℕ, ◌*◌, ◌<◌, ◌≤◌, List, [], ◌∷◌, length, Option, refl, ap, sym, ◌∙◌, arith}
-use Rattle.std.specs.Prelude.{All, IfSome}
+use Rattle.std.proofs.Common.{◌≡◌, ℕ, ◌<◌, ◌≤◌, List, [], ◌∷◌, length, Option, refl, ap, sym, ◌∙◌, arith}
+use Rattle.std.specs.Prelude.{All}
 use Rattle.std.specs.BTreeMap.{insert_entry}
 use Rattle.std.specs.List.{AllByRecursion}
 use Rattle.std.specs.Ordering.{match_ordering, nat_cmp}
 use Rattle.std.specs.declared.cmp.Ordering.TheVariants.{Less, Equal, Greater}
 use Rattle.std.specs.Cmp.Lexicographic.{slice_cmp}
-use Rattle.std.specs.FinMap.{empty, entries, entries-insert, get, get-empty, get-entries, insert, put}
+use Rattle.std.specs.FinMap.{empty, entries, entries-insert, get-empty, get-entries, insert, put}
 use Rattle.std.specs.FinMap.Entries.{by_order, same_entries}
 use Rattle.std.specs.FinMap.{entries_sorted}
 use Rattle.std.proofs.lemmas.Cmp.{nat_list_cmp_total}
 use Rattle.std.proofs.lemmas.List.Elements.{All-from_recursion, All-head, All-tail, recursion_from_All}
 use Rattle.sdb_base.specs.Nibbles.{nibbles_of}
 use Rattle.sdb_base.specs.declared.Change.{Change}
-use Rattle.trie_model.specs.Limits.{ChangeIsWithin, most_in_key, most_in_value}
+use Rattle.trie_model.specs.Limits.{ChangeIsWithin, most_in_key}
 use Rattle.trie_model.specs.Node.{IsPartial}
 use Rattle.trie_root.proofs.Nibble.{length-nibbles_of}
 use Rattle.trie_root.proofs.ReadOffStates.{nibbles_small}

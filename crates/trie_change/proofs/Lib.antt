@@ -71,3 +71,4 @@ pub mod TakenStage
 pub mod KnownLimits
 pub mod LastSets
 pub mod Beginning
+pub mod KeysBegun

@@ -1,5 +1,5 @@
 -- The limits stay as items are moved.
-use Rattle.std.proofs.Common.{◌≡◌, ℕ, List, [], ◌∷◌, ◌++◌, reverse, Option, Some, None, refl, ap, subst, sym, ◌∙◌}
+use Rattle.std.proofs.Common.{◌≡◌, ℕ, List, [], ◌∷◌, ◌++◌, reverse, Option, Some, None, subst, sym}
 use Rattle.std.specs.Prelude.{◌≤◌, IfSome, length}
 use Rattle.std.specs.List.{AllByRecursion}
 use Rattle.std.proofs.lemmas.List.{reverse-reverse}
@@ -10,7 +10,6 @@ use Rattle.trie_read.proofs.OneFed.{all_split}
 use Rattle.trie_change.specs.Changing.{IsLimitedSetting}
 use Rattle.trie_change.specs.Frontier.{IsLimited}
 use Rattle.trie_change.specs.declared.frontier.Item.{Item}
-use Rattle.trie_change.specs.declared.frontier.Item.TheVariants as item
 use Rattle.trie_change.specs.declared.frontier.Stub.{Stub}
 use Rattle.trie_change.specs.declared.settings.Setting.{Setting}
 use Rattle.trie_change.specs.inner.InOrder.{in_place, next_item}

@@ -1,5 +1,5 @@
 -- The paths of items beside a stub, and the suffixes for which they stand.
-use Rattle.std.proofs.Common.{◌≡◌, ◌⊎◌, ℕ, true, false, List, [], ◌∷◌, ◌++◌, refl, ap, subst, sym, ◌∙◌, inl, inr, append_assoc}
+use Rattle.std.proofs.Common.{◌≡◌, ℕ, true, false, List, [], ◌∷◌, ◌++◌, refl, ap, sym, ◌∙◌, inl, inr, append_assoc}
 use Rattle.std.specs.Prelude.{nat_eq}
 use Rattle.std.specs.List.{starts_with}
 use Rattle.trie_model.specs.Trie.{Suffix, below, with_prefix}
@@ -7,7 +7,6 @@ use Rattle.trie_read.proofs.Among.{Among}
 use Rattle.trie_change.specs.Frontier.{IsItem, is_at_stub, suffixes_for}
 use Rattle.trie_change.specs.declared.frontier.Item.{Item}
 use Rattle.trie_change.specs.declared.frontier.Item.TheVariants as item
-use Rattle.trie_change.specs.declared.frontier.Stub.{Stub}
 use Rattle.trie_change.specs.inner.InOrder.{path_of_item}
 use Rattle.trie_change.proofs.Disjoint.{begins, goes_on_from}
 use Rattle.trie_change.proofs.SortedParts.{one_begins, there_some}

@@ -1,21 +1,17 @@
 -- A key that is set comes in after the items below it.
 use Rattle.std.proofs.Common.{◌≡◌, ℕ, Bool, true, false, cond, List, [], ◌∷◌, ◌++◌, reverse, Option, Some, None, T, refl, ap, ap₂, subst, sym, ◌∙◌, inl, inr}
 use Rattle.std.specs.Ordering.{eq_by_cmp, is_eq}
-use Rattle.std.specs.declared.cmp.Ordering.{Ordering}
 use Rattle.std.specs.declared.cmp.Ordering.TheVariants.{Less, Equal, Greater}
 use Rattle.std.specs.FinMap.{find, is_sorted}
 use Rattle.std.proofs.lemmas.List.{append-nil}
 use Rattle.trie_model.specs.Trie.{Suffix}
 use Rattle.trie_read.proofs.Among.{Among, among_either, among_left, among_right}
-use Rattle.trie_change.specs.Frontier.{suffixes_for}
-use Rattle.trie_change.specs.declared.frontier.Entry.{Entry}
 use Rattle.trie_change.specs.declared.frontier.Item.{Item}
 use Rattle.trie_change.specs.declared.frontier.Item.TheVariants as item
-use Rattle.trie_change.specs.declared.frontier.Stub.{Stub}
 use Rattle.trie_change.specs.declared.settings.Setting.{Setting}
-use Rattle.trie_change.specs.inner.InOrder.{set_pair, set_pairs, stubs_of}
+use Rattle.trie_change.specs.inner.InOrder.{set_pair, stubs_of}
 use Rattle.trie_change.specs.inner.Merged.{set_item}
-use Rattle.trie_change.proofs.Orders.{found_joined, front_sorted, joined_sorted, key_cmp, not_found_below, or_else, precedes}
+use Rattle.trie_change.proofs.Orders.{found_joined, joined_sorted, key_cmp, not_found_below, or_else, precedes}
 use Rattle.trie_change.proofs.MergedSteps.{IsMergedWell, Setted, or_not_set, or_nothing, overlaid, pairs_more, rising, rising_more, rising_pairs, same_key, stubs_more}
 
 -- the suffix of a key that is set to a value

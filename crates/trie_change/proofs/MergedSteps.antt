@@ -1,8 +1,6 @@
 -- What items and settings make, one after the other from the last on.
-use Rattle.std.proofs.Common.{◌≡◌, ℕ, Bool, true, false, cond, List, [], ◌∷◌, ◌++◌, map, reverse, Option, Some, None, T, refl, ap, ap₂, subst, sym, ◌∙◌, inl, inr}
-use Rattle.std.specs.Prelude.{nat_eq}
-use Rattle.std.specs.List.{AllByRecursion, flat_map, starts_with}
-use Rattle.std.specs.Ordering.{eq_by_cmp, is_eq}
+use Rattle.std.proofs.Common.{◌≡◌, ℕ, Bool, true, false, cond, List, [], ◌∷◌, ◌++◌, reverse, Option, Some, None, T, refl, ap, ap₂, subst, sym, ◌∙◌, inl, inr}
+use Rattle.std.specs.Ordering.{eq_by_cmp}
 use Rattle.std.specs.declared.cmp.Ordering.TheVariants.{Less, Equal}
 use Rattle.std.specs.FinMap.{find, is_sorted, nat_cmp-IsAntisymmetric, slice_cmp-IsAntisymmetric}
 use Rattle.std.proofs.lemmas.List.{append-nil, map-append, reverse-append}
@@ -16,9 +14,8 @@ use Rattle.trie_change.specs.declared.frontier.Item.TheVariants as item
 use Rattle.trie_change.specs.declared.frontier.Stub.{Stub}
 use Rattle.trie_change.specs.declared.settings.Setting.{Setting}
 use Rattle.trie_change.specs.inner.InOrder.{set_pair, set_pairs, stubs_in, stubs_of}
-use Rattle.trie_change.specs.inner.Merged.{set_item}
 use Rattle.trie_change.proofs.Neighbours.{all_for}
-use Rattle.trie_change.proofs.Orders.{back_sorted, found_joined, found_there, joined_sorted, key_cmp, not_found_above, not_found_below, or_else, precedes}
+use Rattle.trie_change.proofs.Orders.{back_sorted, found_joined, found_there, joined_sorted, key_cmp, not_found_above, or_else, precedes}
 
 abbrev pub Setted : Type 0
 Setted = List ℕ × Option (List ℕ)

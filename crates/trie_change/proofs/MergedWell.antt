@@ -1,21 +1,19 @@
 -- Items and settings in order make items in order, which stand for what was there with what is set over it.
-use Rattle.std.proofs.Common.{◌≡◌, ℕ, true, false, List, [], ◌∷◌, ◌++◌, reverse, Option, Some, None, T, refl, ap, subst, sym, ◌∙◌, inl, inr}
+use Rattle.std.proofs.Common.{◌≡◌, ℕ, true, false, List, [], ◌∷◌, ◌++◌, T, refl, ap, subst, sym, ◌∙◌, inl, inr}
 use Rattle.std.proofs.lemmas.List.{append-nil}
 use Rattle.std.specs.Prelude.{nat_eq}
 use Rattle.std.specs.List.{AllByRecursion, starts_with}
 use Rattle.std.specs.declared.cmp.Ordering.TheVariants.{Less, Greater}
 use Rattle.std.specs.FinMap.{is_sorted}
 use Rattle.trie_model.specs.Trie.{Suffix, below}
-use Rattle.trie_read.proofs.Among.{Among, among_either, among_left, among_right}
+use Rattle.trie_read.proofs.Among.{Among, among_either}
 use Rattle.trie_read.proofs.Rising.{all_weaker}
 use Rattle.trie_change.specs.Frontier.{IsItem, is_at_stub, suffixes_for}
 use Rattle.trie_change.specs.declared.frontier.Item.{Item}
 use Rattle.trie_change.specs.declared.frontier.Item.TheVariants as item
-use Rattle.trie_change.specs.declared.frontier.Stub.{Stub}
 use Rattle.trie_change.specs.declared.settings.Setting.{Setting}
 use Rattle.trie_change.specs.inner.InOrder.{path_of_item, set_pair}
 use Rattle.trie_change.specs.inner.Merged.{IsBelowKey, IsMerged, comes_in, is_replaced, no_more_set, nothing_left, stays_above}
-use Rattle.trie_change.proofs.Disjoint.{begins}
 use Rattle.trie_change.proofs.LongerPaths.{begins_longer, first_there, goes_after}
 use Rattle.trie_change.proofs.MergedComing.{comes}
 use Rattle.trie_change.proofs.MergedSteps.{IsMergedWell, Setted, pairs_more, replaced, rising, rising_more, rising_pairs, stays}

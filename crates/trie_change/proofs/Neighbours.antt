@@ -1,12 +1,11 @@
 -- A stub hangs where one of its neighbours goes on with its path up to the last nibble.
-use Rattle.std.proofs.Common.{◌≡◌, ◌⊎◌, ℕ, Bool, true, false, List, [], ◌∷◌, ◌++◌, T, refl, ap, subst, sym, ◌∙◌, inl, inr, append_assoc}
-use Rattle.std.specs.Prelude.{◌||◌, nat_eq}
-use Rattle.std.specs.List.{AllByRecursion, flat_map, list_any, starts_with}
+use Rattle.std.proofs.Common.{◌≡◌, ℕ, true, false, List, [], ◌∷◌, ◌++◌, T, subst, sym, ◌∙◌, inl, inr, append_assoc}
+use Rattle.std.specs.Prelude.{nat_eq}
+use Rattle.std.specs.List.{flat_map, starts_with}
 use Rattle.std.specs.Ordering.{nat_cmp}
 use Rattle.std.specs.Cmp.Lexicographic.{slice_cmp}
 use Rattle.std.specs.FinMap.{is_sorted}
 use Rattle.std.proofs.lemmas.List.{append-nil}
-use Rattle.std.proofs.lemmas.List.Concat.{flat_map-append}
 use Rattle.trie_model.specs.Trie.{Suffix, below, with_prefix}
 use Rattle.trie_root.proofs.Fronts.{is_sorted-back}
 use Rattle.trie_root.proofs.Rows.{joined}
@@ -16,7 +15,7 @@ use Rattle.trie_change.specs.declared.frontier.Item.{Item}
 use Rattle.trie_change.specs.inner.InOrder.{path_of_item}
 use Rattle.trie_change.proofs.Disjoint.{nothing_joined}
 use Rattle.trie_change.proofs.LongerPaths.{begins_longer, begins_through, first_there, goes_after, item_path, item_some, item_there}
-use Rattle.trie_change.proofs.SortedParts.{Lies, lies_before, lies_between, some_there, there_some}
+use Rattle.trie_change.proofs.SortedParts.{Lies, lies_before, lies_between, some_there}
 
 abbrev pub all_for : List Suffix → List Item → List Suffix
 all_for ss items = flat_map (suffixes_for ss) items

@@ -1,7 +1,7 @@
 -- No changed key goes on with a path below one that none goes on with.
-use Rattle.std.proofs.Common.{◌≡◌, ℕ, Bool, true, false, cond, List, [], ◌∷◌, ◌++◌, refl, ap, ap₂, subst, sym, ◌∙◌}
+use Rattle.std.proofs.Common.{◌≡◌, ℕ, Bool, true, false, cond, List, [], ◌∷◌, ◌++◌, refl, ap, ap₂, sym, ◌∙◌}
 use Rattle.std.specs.Prelude.{◌&&◌, ◌||◌, filter, nat_eq, not}
-use Rattle.std.specs.List.{AllByRecursion, flat_map, list_any, starts_with}
+use Rattle.std.specs.List.{AllByRecursion, list_any, starts_with}
 use Rattle.std.proofs.lemmas.List.Elements.{filter-append}
 use Rattle.sdb_base.specs.Nibbles.{nibbles_of}
 use Rattle.trie_model.specs.Fetches.{for_change, is_changed, is_unhung}

@@ -1,5 +1,5 @@
 -- The wanted node is fed, and what it has takes its place.
-use Rattle.std.proofs.Common.{◌≡◌, ℕ, true, false, List, [], ◌∷◌, ◌++◌, ◌⊎◌, length, length-append, map, refl, ap, subst, sym, ◌∙◌, inl, inr, arith}
+use Rattle.std.proofs.Common.{◌≡◌, ℕ, false, List, [], ◌∷◌, ◌++◌, ◌⊎◌, length, length-append, ap, subst, sym, ◌∙◌, inl, inr, arith}
 use Rattle.std.specs.Prelude.{IsPermutation, Ok, filter}
 use Rattle.std.specs.List.{AllByRecursion, list_any}
 use Rattle.std.proofs.lemmas.List.{map-append}
@@ -21,7 +21,7 @@ use Rattle.trie_read.proofs.OneFed.{all_split, head_alike}
 use Rattle.trie_read.proofs.Rising.{all_weaker}
 use Rattle.trie_read.proofs.Sound.{Sound}
 use Rattle.trie_change.specs.ChangedKeys.{keys_in_changes}
-use Rattle.trie_change.specs.Frontier.{IsFrontier, IsItem, IsStub, is_at_stub, is_under, path_node_at}
+use Rattle.trie_change.specs.Frontier.{IsItem, IsStub, is_at_stub, is_under, path_node_at}
 use Rattle.trie_change.specs.declared.frontier.Fed.{Fed}
 use Rattle.trie_change.specs.declared.frontier.Item.{Item}
 use Rattle.trie_change.specs.declared.frontier.Item.TheVariants as item

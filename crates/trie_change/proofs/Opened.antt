@@ -1,12 +1,9 @@
 -- A stub gives place to what its node has.
-use Rattle.std.proofs.Common.{◌≡◌, ◌⊎◌, ℕ, zero, suc, ◌+◌, ◌≤◌, Bool, true, false, List, [], ◌∷◌, ◌++◌, length, map, refl, ap, ap₂, subst, sym, ◌∙◌, inl, inr, arith, append_assoc, length-append}
-use Rattle.std.specs.Prelude.{◌||◌, nat_eq, IsPermutation, Ok, filter}
-use Rattle.std.specs.List.{AllByRecursion, flat_map, list_any, starts_with}
-use Rattle.std.proofs.lemmas.List.{map-append}
+use Rattle.std.proofs.Common.{◌≡◌, ℕ, zero, suc, ◌≤◌, Bool, true, false, List, [], ◌∷◌, ◌++◌, refl, ap, ap₂, subst, sym, ◌∙◌, inl, inr, arith, length-append}
+use Rattle.std.specs.Prelude.{◌||◌, nat_eq, Ok, filter}
+use Rattle.std.specs.List.{AllByRecursion, list_any, starts_with}
 use Rattle.std.proofs.lemmas.List.Concat.{flat_map-append}
-use Rattle.std.proofs.lemmas.List.Sorted.{IsPermutation-cons, IsPermutation-sym, IsPermutation-to_front, IsPermutation-trans}
-use Rattle.sdb_blake2.specs.Blake2b.{H}
-use Rattle.trie_model.specs.Node.{IsNode, Node, spelling}
+use Rattle.trie_model.specs.Node.{IsNode, Node}
 use Rattle.trie_model.specs.Nodes.{PathNode, is_stored, nodes_over}
 use Rattle.trie_model.specs.Trie.{Suffix, below, levels_of, with_prefix}
 use Rattle.trie_codec.specs.Reading.{node_of_bytes}
@@ -17,10 +14,8 @@ use Rattle.trie_read.specs.Paths.{node_at}
 use Rattle.trie_read.proofs.Depths.{first_over}
 use Rattle.trie_read.proofs.NextStage.{one_of}
 use Rattle.trie_read.proofs.OneFed.{all_split}
-use Rattle.trie_read.proofs.Rising.{all_weaker}
 use Rattle.trie_read.proofs.Sound.{Sound, node_sound, sound_below}
 use Rattle.trie_change.specs.Frontier.{IsFrontier, IsItem, IsStub, is_at_stub, is_under, path_node_at, suffixes_for}
-use Rattle.trie_change.specs.declared.frontier.Fed.{Fed}
 use Rattle.trie_change.specs.declared.frontier.Item.{Item}
 use Rattle.trie_change.specs.declared.frontier.Item.TheVariants as item
 use Rattle.trie_change.specs.declared.frontier.Stub.{Stub}
@@ -28,7 +23,7 @@ use Rattle.trie_change.specs.inner.InOrder.{IsBelowRoot, RootIsAlone}
 use Rattle.trie_change.specs.inner.Known.{all_known, known_in}
 use Rattle.trie_change.specs.inner.Stages.{all_under, stored_under}
 use Rattle.trie_change.proofs.CarriedStep.{no_items}
-use Rattle.trie_change.proofs.Disjoint.{begins, none_around, not_above}
+use Rattle.trie_change.proofs.Disjoint.{none_around, not_above}
 use Rattle.trie_change.proofs.HangingBetween.{neither_true}
 use Rattle.trie_change.proofs.ItemsKnown.{items_for, items_sound, items_under, itself_all, off_all}
 use Rattle.trie_change.proofs.KnownDeeper.{IsDeeper, all_deeper}

@@ -1,5 +1,5 @@
 -- What changes set is what their state has over the one before, and the keys that are set are those that they name.
-use Rattle.std.proofs.Common.{◌≡◌, ℕ, Bool, true, false, cond, List, [], ◌∷◌, ◌++◌, map, Option, Some, None, T, refl, ap, ap₂, subst, sym, ◌∙◌, inl, inr}
+use Rattle.std.proofs.Common.{◌≡◌, ℕ, Bool, true, false, cond, List, [], ◌∷◌, map, Option, Some, None, T, refl, ap, ap₂, sym, ◌∙◌, inl, inr, subst}
 use Rattle.std.specs.Prelude.{◌||◌, is_some, nat_eq}
 use Rattle.std.specs.List.{list_any, starts_with}
 use Rattle.std.specs.Ordering.{nat_cmp}
@@ -17,10 +17,10 @@ use Rattle.trie_model.proofs.States.{get-with_key, key_ties}
 use Rattle.trie_read.proofs.Among.{Among}
 use Rattle.trie_change.specs.ChangedKeys.{keys_in_changes}
 use Rattle.trie_change.specs.declared.settings.Setting.{Setting}
-use Rattle.trie_change.specs.inner.InOrder.{begins_one, set_pairs}
+use Rattle.trie_change.specs.inner.InOrder.{IsRising, begins_one, set_pairs}
 use Rattle.trie_change.specs.inner.Stages.{set_by, set_from}
 use Rattle.trie_change.proofs.MergedSteps.{Setted, overlaid}
-use Rattle.trie_change.proofs.Nibbled.{entry_found, found_itself, found_nibbled, key_found, nibbled, same_bools, sorted_nibbled}
+use Rattle.trie_change.proofs.Nibbled.{entry_found, found_itself, found_nibbled, key_found, same_bools, sorted_nibbled}
 use Rattle.trie_change.proofs.OffWay.{at_path}
 use Rattle.trie_change.proofs.Orders.{key_cmp}
 
@@ -29,6 +29,9 @@ SetMap = FinMap (slice_cmp nat_cmp) (Option (List ℕ))
 
 pub sorted_set : (changes : List Change) → T (is_sorted key_cmp (set_by changes))
 sorted_set changes = sorted_nibbled (entries (set_from empty changes)) (entries_sorted (set_from empty changes))
+
+pub rises : (settings : List Setting) (changes : List Change) → set_pairs settings ≡ set_by changes → IsRising settings
+rises settings changes e = subst (λ (ps : List Setted). T (is_sorted key_cmp ps)) (sym e) (sorted_set changes)
 
 -- ---- the values
 

@@ -1,13 +1,12 @@
 -- Where the suffixes that go on with a path up to its last nibble part.
-use Rattle.std.proofs.Common.{◌≡◌, ◌⊎◌, ℕ, true, eqb, List, [], ◌∷◌, ◌++◌, map, Some, None, refl, ap, subst, sym, ◌∙◌, inl, inr, append_assoc, eq-eqb}
+use Rattle.std.proofs.Common.{◌≡◌, ◌⊎◌, ℕ, true, eqb, List, [], ◌∷◌, ◌++◌, map, Some, None, refl, ap, subst, sym, ◌∙◌, inl, inr, eq-eqb}
 use Rattle.std.proofs.lemmas.List.{append-nil}
 use Rattle.trie_model.specs.Trie.{Suffix, below, common, common_prefix, with_prefix}
 use Rattle.trie_root.proofs.Fronts.{all_with}
 use Rattle.trie_root.proofs.Prefixes.{Begins, begins_further, begins_itself, begins_parts, below-append, without}
 use Rattle.trie_root.proofs.Rows.{joined}
 use Rattle.trie_root.proofs.Stripped.{AllBegin, all_begin}
-use Rattle.trie_read.specs.Paths.{Hangs}
-use Rattle.trie_change.proofs.Disjoint.{below_after, none_around, nothing_joined}
+use Rattle.trie_change.proofs.Disjoint.{below_after, none_around}
 use Rattle.trie_change.proofs.Unfolds.{after_further}
 
 -- ---- lists up to their last element

@@ -1,5 +1,5 @@
 -- Suffixes in order: what lies between two that begin with some nibbles begins with them too.
-use Rattle.std.proofs.Common.{◌≡◌, ◌⊎◌, ℕ, zero, suc, ◌<◌, Bool, true, false, eqb, List, [], ◌∷◌, ◌++◌, Option, Some, None, T, refl, ap, subst, sym, ◌∙◌, inl, inr, arith, eq-eqb}
+use Rattle.std.proofs.Common.{◌≡◌, ◌⊎◌, ℕ, true, false, eqb, List, [], ◌∷◌, ◌++◌, Option, Some, None, T, refl, ap, subst, sym, ◌∙◌, inl, inr, arith, eq-eqb}
 use Rattle.std.specs.Prelude.{◌&&◌, nat_eq, is_some}
 use Rattle.std.specs.List.{starts_with}
 use Rattle.std.specs.Ordering.{is_lt, nat_cmp}
@@ -8,7 +8,7 @@ use Rattle.std.specs.FinMap.{is_sorted}
 use Rattle.std.proofs.lemmas.Bool.Decides.{eqb_tells}
 use Rattle.trie_model.specs.Trie.{Suffix, after_prefix, below}
 use Rattle.trie_root.proofs.Ends.{AtMost, at_most_from_lt, below_all, first_of_and, second_of_and}
-use Rattle.trie_read.proofs.Among.{Among, among_left, among_right}
+use Rattle.trie_read.proofs.Among.{Among, among_right}
 use Rattle.trie_read.proofs.Ways.{follows}
 
 abbrev pub Lies : Suffix → Suffix → Type 0
@@ -36,7 +36,7 @@ begun x y q r e = elim (eqb_tells x y) [
 begin_also : (x y : ℕ) (q r : List ℕ) → x ≡ y → starts_with nat_eq r q ≡ true → (eqb x y && starts_with nat_eq r q) ≡ true
 begin_also x y q r e h = let same : eqb x y ≡ true = eq-eqb x y e in rw same h
 
-between : (q a b c : List ℕ) → AtMost a b → AtMost b c → starts_with nat_eq a q ≡ true → starts_with nat_eq c q ≡ true → starts_with nat_eq b q ≡ true
+pub between : (q a b c : List ℕ) → AtMost a b → AtMost b c → starts_with nat_eq a q ≡ true → starts_with nat_eq c q ≡ true → starts_with nat_eq b q ≡ true
 between [] a b c h k i j = refl
 between (x ∷ q) [] b c h k i j = absurd cc
 between (x ∷ q) (y ∷ a) b [] h k i j = absurd cc

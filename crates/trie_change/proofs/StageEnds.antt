@@ -1,24 +1,21 @@
 -- What a job has come to where it wants no node.
-use Rattle.std.proofs.Common.{◌≡◌, ℕ, true, false, List, [], ◌∷◌, ◌++◌, reverse, Option, Some, None, refl, ap, subst, sym, ◌∙◌}
-use Rattle.std.specs.Prelude.{All, is_some}
-use Rattle.std.specs.FinMap.{entries}
+use Rattle.std.proofs.Common.{◌≡◌, true, false, List, [], ◌∷◌, Option, Some, None, refl, ap, subst, sym, ◌∙◌}
+use Rattle.std.specs.Prelude.{is_some}
 use Rattle.std.specs.List.{AllByRecursion}
 use Rattle.std.specs.Option.{option_map}
 use Rattle.std.proofs.lemmas.List.{append-nil}
 use Rattle.sdb_base.specs.declared.Change.{Change}
 use Rattle.trie_model.specs.Nodes.{PathNode, stored_nodes}
 use Rattle.trie_model.specs.State.{State, apply, no_keys}
-use Rattle.trie_model.specs.Trie.{suffixes_of}
-use Rattle.trie_root.specs.Suffixes.{IsEntry}
 use Rattle.trie_change.specs.ChangedKeys.{keys_in_changes}
-use Rattle.trie_change.specs.Changing.{IsChanging, IsCreating, change_wanted}
+use Rattle.trie_change.specs.Changing.{IsChanging, IsCreating}
 use Rattle.trie_change.specs.declared.change_job.ChangeJob.{ChangeJob}
 use Rattle.trie_change.specs.declared.frontier.Item.{Item}
 use Rattle.trie_change.specs.declared.frontier.Stub.{Stub}
 use Rattle.trie_change.specs.declared.settings.Setting.{Setting}
 use Rattle.trie_change.specs.inner.InOrder.{in_place}
 use Rattle.trie_change.specs.inner.Settled.{AreEnough}
-use Rattle.trie_change.specs.inner.Stages.{IsCarriedOut, IsHeld, IsOffKeys, IsUnderWay, IsWaiting, JobParts, parts_of_job}
+use Rattle.trie_change.specs.inner.Stages.{IsCarriedOut, IsHeld, IsOffKeys, IsUnderWay, IsWaiting, JobParts, job_parts}
 use Rattle.trie_change.proofs.JobItems.{created_items, settled_items}
 
 pub none_wanted : (o : Option Stub) → option_map (λ (s : Stub). s.hash.0) o ≡ None → o ≡ None
@@ -37,8 +34,8 @@ only_found found later wanted none nothing =
 pub finished : (j : ChangeJob) (m : State) (changes : List Change) → IsChanging j m changes [] → AreEnough (stored_nodes m) (apply m changes) j.fed.items j.found.items
 finished j m changes c =
     let none : j.wanted ≡ None = none_wanted j.wanted c.wants in
-    let last : IsCarriedOut (parts_of_job j) m changes [] × (j.later.items ≡ []) =
-    last_stage j.settings.items (parts_of_job j) m changes [] c.stage.under_way c.stage.waiting none in
+    let last : IsCarriedOut (job_parts j) m changes [] × (j.later.items ≡ []) =
+    last_stage j.settings.items (job_parts j) m changes [] c.stage.under_way c.stage.waiting none in
     let only : in_place j.found.items j.wanted j.later.items ≡ j.found.items = only_found j.found.items j.later.items j.wanted none last.1 in
     settled_items m changes c.within last.0.after j.fed.items j.found.items []
     (subst (λ (xs : List Item). IsHeld (apply m changes) m changes j.fed.items xs []) only last.0.held)

@@ -1,32 +1,28 @@
 -- From one stage of a job to the next, as items are moved.
-use Rattle.std.proofs.Common.{◌≡◌, ◌⊎◌, ℕ, Bool, true, false, List, [], ◌∷◌, ◌++◌, length, reverse, Option, Some, None, refl, ap, ap₂, subst, sym, ◌∙◌, inl, inr, arith}
-use Rattle.std.specs.Prelude.{◌||◌, All, IfSome, filter, is_some, nat_eq}
-use Rattle.std.specs.FinMap.{entries}
+use Rattle.std.proofs.Common.{◌≡◌, ℕ, true, false, List, [], ◌∷◌, ◌++◌, reverse, Option, None, refl, ap, ap₂, subst, sym, ◌∙◌, inr}
+use Rattle.std.specs.Prelude.{◌||◌, IfSome, filter, is_some, nat_eq}
 use Rattle.std.specs.List.{AllByRecursion, flat_map, list_any, starts_with}
 use Rattle.std.proofs.lemmas.List.{append-nil}
-use Rattle.sdb_base.specs.Nibbles.{nibbles_of}
 use Rattle.sdb_base.specs.declared.Change.{Change}
-use Rattle.trie_model.specs.Fetches.{for_change, is_changed}
+use Rattle.trie_model.specs.Fetches.{for_change}
 use Rattle.trie_model.specs.Nodes.{PathNode, all_nodes, is_stored, nodes_over, stored_nodes}
 use Rattle.trie_model.specs.State.{State, apply}
-use Rattle.trie_model.specs.Trie.{Suffix, below, levels_of, suffixes_of}
-use Rattle.trie_root.specs.Suffixes.{IsEntry}
+use Rattle.trie_model.specs.Trie.{Suffix, levels_of, suffixes_of}
 use Rattle.trie_read.specs.Paths.{Hangs}
 use Rattle.trie_read.proofs.Rising.{all_weaker}
 use Rattle.trie_change.specs.ChangedKeys.{keys_in_changes}
-use Rattle.trie_change.specs.Frontier.{IsHanging, is_at_stub, is_under}
+use Rattle.trie_change.specs.Frontier.{IsHanging, is_under}
 use Rattle.trie_change.specs.declared.frontier.Fed.{Fed}
 use Rattle.trie_change.specs.declared.frontier.Item.{Item}
 use Rattle.trie_change.specs.declared.frontier.Item.TheVariants as item
 use Rattle.trie_change.specs.declared.frontier.Stub.{Stub}
 use Rattle.trie_change.specs.declared.settings.Setting.{Setting}
-use Rattle.trie_change.specs.inner.InOrder.{IsBelowRoot, IsOff, begins_one, in_place, set_pairs, stubs_of}
+use Rattle.trie_change.specs.inner.InOrder.{IsBelowRoot, IsOff, begins_one, in_place, stubs_of}
 use Rattle.trie_change.specs.inner.Merged.{IsMerged}
 use Rattle.trie_change.specs.inner.Settled.{fed_nodes}
-use Rattle.trie_change.specs.inner.Stages.{IsCarriedOut, IsHeld, IsOffKeys, IsOnTheWay, IsSplit, IsUnderWay, IsWaiting, JobParts, all_under, set_by, stored_under}
-use Rattle.trie_change.proofs.CarriedOver.{IsOffStub, OfStub, frontier_after, items_hold, off_after, same_stubs_hold, stubs_hold, stubs_stay, to_off_stubs}
+use Rattle.trie_change.specs.inner.Stages.{IsCarriedOut, IsHeld, IsOffKeys, IsOnTheWay, IsSplit, IsUnderWay, IsWaiting, JobParts, all_under, stored_under}
+use Rattle.trie_change.proofs.CarriedOver.{IsOffStub, OfStub, frontier_after, off_after, same_stubs_hold, stubs_hold, stubs_stay}
 use Rattle.trie_change.proofs.OffWay.{at_path}
-use Rattle.trie_change.proofs.SetBy.{begins_changed}
 use Rattle.trie_change.proofs.Unchanged.{below_stays}
 
 -- ---- which run it is

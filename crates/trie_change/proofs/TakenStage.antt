@@ -1,16 +1,14 @@
 -- A job after its wanted node was fed, and the node that a job wants.
-use Rattle.std.proofs.Common.{◌≡◌, ℕ, true, false, List, [], ◌∷◌, ◌++◌, length, reverse, Option, Some, None, refl, ap, subst, sym, ◌∙◌}
-use Rattle.std.specs.Prelude.{All, Ok, is_some}
+use Rattle.std.proofs.Common.{◌≡◌, ℕ, false, List, [], ◌∷◌, ◌++◌, length, reverse, Option, Some, None, refl, ap, subst, sym, ◌∙◌}
+use Rattle.std.specs.Prelude.{All, Ok}
 use Rattle.std.specs.FinMap.{entries}
 use Rattle.std.specs.List.{AllByRecursion}
 use Rattle.std.specs.Option.{option_map}
 use Rattle.std.proofs.lemmas.List.{reverse-append, reverse-reverse}
 use Rattle.sdb_base.specs.declared.Change.{Change}
-use Rattle.trie_model.specs.Fetches.{is_changed}
 use Rattle.trie_model.specs.Node.{Node}
 use Rattle.trie_model.specs.Nodes.{PathNode}
 use Rattle.trie_model.specs.State.{State, apply}
-use Rattle.trie_model.specs.Trie.{suffixes_of}
 use Rattle.trie_codec.specs.Reading.{node_of_bytes}
 use Rattle.trie_root.specs.Suffixes.{IsEntry}
 use Rattle.trie_root.proofs.ShapesBytes.{all_joined}
@@ -27,7 +25,7 @@ use Rattle.trie_change.specs.declared.frontier.Stub.{Stub}
 use Rattle.trie_change.specs.declared.settings.Setting.{Setting}
 use Rattle.trie_change.specs.inner.InOrder.{in_place}
 use Rattle.trie_change.specs.inner.Known.{all_known, known_in}
-use Rattle.trie_change.specs.inner.Stages.{IsCarriedOut, IsHeld, IsOffKeys, IsOnTheWay, IsFedSoFar, IsUnderWay, IsWaiting, JobParts, parts_of_job}
+use Rattle.trie_change.specs.inner.Stages.{IsCarriedOut, IsHeld, IsOffKeys, IsOnTheWay, IsFedSoFar, IsUnderWay, IsWaiting, JobParts}
 use Rattle.trie_change.proofs.FirstFed.{first_wanted, good_node, nothing_wanted, on_the_way_first, taken_in, unhung_comes_first}
 use Rattle.trie_change.proofs.KnownDeeper.{IsDeeper, all_deeper}
 use Rattle.trie_change.proofs.OffWay.{deeper_off}

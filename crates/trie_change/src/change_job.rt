@@ -65,7 +65,7 @@ impl ChangeJob {
     ghost use Rattle.trie_change.specs.inner.InOrder.{set_pairs};
     ghost use Rattle.trie_change.specs.inner.Known.{all_known, known_in};
     ghost use Rattle.trie_change.specs.inner.Merged.{HasBytes};
-    ghost use Rattle.trie_change.specs.inner.Stages.{HasPlaces, IsCarriedOut, IsFedSoFar, IsUnderWay, parts_of_job};
+    ghost use Rattle.trie_change.specs.inner.Stages.{HasPlaces, IsCarriedOut, IsFedSoFar, IsUnderWay, job_parts};
     ghost use Rattle.trie_change.specs.declared.frontier.Stub.{Stub};
 
     // A job that has what is set, and knows of nothing, with room for a first item.
@@ -214,7 +214,7 @@ impl ChangeJob {
         requires limits { KeepsLimits self.old }
         ensures limits { KeepsLimits self.new }
         ensures stage { (m : State) (changes : List Change) (todo : List PathNode)
-            → IsUnderWay self.old.settings.items (parts_of_job self.old) m changes todo → IsFedSoFar self.new m changes todo }
+            → IsUnderWay self.old.settings.items (job_parts self.old) m changes todo → IsFedSoFar self.new m changes todo }
     {
         if self.settings.is_empty() {
             self.go_to_unhung();
@@ -236,7 +236,7 @@ impl ChangeJob {
         requires limits { KeepsLimits self.old }
         ensures limits { KeepsLimits self.new }
         ensures stage { (m : State) (changes : List Change) (todo : List PathNode)
-            → IsCarriedOut (parts_of_job self.old) m changes todo → IsFedSoFar self.new m changes todo }
+            → IsCarriedOut (job_parts self.old) m changes todo → IsFedSoFar self.new m changes todo }
     {
         self.wanted = move_to_unhung(&mut self.found, &mut self.later);
     }

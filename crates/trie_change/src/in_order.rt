@@ -8,7 +8,7 @@ ghost use Rattle.trie_model.specs.Trie.{suffixes_of};
 ghost use Rattle.trie_read.specs.Paths.{Hangs};
 ghost use Rattle.trie_root.specs.Suffixes.{IsEntry};
 ghost use Rattle.trie_change.specs.Frontier.{IsFrontier, IsHanging, IsLimited};
-ghost use Rattle.trie_change.specs.inner.InOrder.{IsOff, begins_one, goes_on_from, hangs_between, in_place, path_of_item};
+ghost use Rattle.trie_change.specs.inner.InOrder.{IsOff, IsRising, begins_one, item_goes_on, hangs_between, in_place, path_of_item};
 
 use crate::frontier::{Item, Stub};
 use crate::settings::{Setting, begins_a_key};
@@ -24,7 +24,7 @@ pub(crate) fn path_of(item: &Item) -> &[u8]
 }
 
 fn goes_on_with(item: Option<&Item>, nibbles: &[u8]) -> bool
-    ensures { result ≡ goes_on_from nibbles.now (option_copied item.entry) }
+    ensures { result ≡ item_goes_on nibbles.now (option_copied item.entry) }
 {
     match item {
         Some(item) => path_of(item).starts_with(nibbles),
@@ -52,8 +52,8 @@ pub(crate) fn move_to_set(
     requires { vec_len found.old + vec_len later.old ≤ vec_capacity found.old }
     ensures items { in_place found.new.items result later.new.items ≡ in_place found.old.items None later.old.items }
     ensures last { result ≡ None → later.new.items ≡ [] }
-    ensures off { AllByRecursion (IsOff settings.now) found.old.items → AllByRecursion (IsOff settings.now) found.new.items }
-    ensures wanted { IfSome result (λ s. begins_one settings.now s.path.items ≡ true) }
+    ensures off { IsRising settings.now → AllByRecursion (IsOff settings.now) found.old.items → AllByRecursion (IsOff settings.now) found.new.items }
+    ensures wanted { IsRising settings.now → IfSome result (λ s. begins_one settings.now s.path.items ≡ true) }
     ensures room { vec_len found.new + vec_len later.new ≤ vec_len found.old + vec_len later.old }
     ensures capacity { vec_capacity found.new ≡ vec_capacity found.old }
     ensures later_capacity { vec_capacity later.new ≡ vec_capacity later.old }

@@ -3,7 +3,7 @@ ghost use Rattle.std.specs.List.{AllByRecursion};
 ghost use Rattle.sdb_base.specs.Nibbles.{nibbles_of};
 ghost use Rattle.trie_model.specs.Limits.{ChangesAreWithin, most_in_key, most_in_value};
 ghost use Rattle.trie_change.specs.Changing.{IsLimitedSetting, settings_of};
-ghost use Rattle.trie_change.specs.inner.InOrder.{begins_one, set_pairs};
+ghost use Rattle.trie_change.specs.inner.InOrder.{IsRising, begins_one, set_pairs};
 ghost use Rattle.trie_change.specs.inner.LastSet.{set_all};
 ghost use Rattle.trie_change.specs.inner.Merged.{HasBytes, IsBelowKey, IsMerged, IsMovedDown, set_item};
 
@@ -95,13 +95,15 @@ pub(crate) fn settings_of(alloc: Global, changes: Changes) -> Result<Vec<Setting
     Ok(settings)
 }
 
-/// Whether a path begins a key that is set.
+/// Whether a path begins a key that is set. Rising keys that begin with it lie together, after those below it.
 pub(crate) fn begins_a_key(settings: &[Setting], path: &[u8]) -> bool
-    ensures { result ≡ begins_one settings.now path.now }
+    ensures { IsRising settings.now → result ≡ begins_one settings.now path.now }
 {
-    settings
-        .iter()
-        .any(|setting| setting.path.as_slice().starts_with(path))
+    let first = settings.partition_point(|setting| setting.path.as_slice().cmp(path).is_lt());
+    if first == settings.len() {
+        return false;
+    }
+    settings[first].path.as_slice().starts_with(path)
 }
 
 // Moves the items above a key, and drops one of the key itself.

@@ -1,5 +1,8 @@
 -- Items that are known of a trie, before and after the node that is wanted.
-use Rattle.std.specs.Prelude.{◌≡◌, ◌⊎◌, ℕ, zero, suc, ◌-◌, ◌||◌, nat_eq, Bool, true, false, List, [], ◌∷◌, ◌++◌, length, map, reverse, take, Option, Some, None}
+use Rattle.std.specs.Prelude.{T, ◌≡◌, ◌⊎◌, ℕ, ◌||◌, nat_eq, Bool, true, false, List, [], ◌∷◌, ◌++◌, length, map, reverse, take, Option, Some, None}
+use Rattle.std.specs.Ordering.{nat_cmp}
+use Rattle.std.specs.Cmp.Lexicographic.{slice_cmp}
+use Rattle.std.specs.FinMap.{is_sorted}
 use Rattle.std.specs.List.{AllByRecursion, flat_map, list_any, starts_with}
 use Rattle.trie_change.specs.declared.frontier.Item.{Item}
 use Rattle.trie_change.specs.declared.frontier.Item.TheVariants as item
@@ -43,16 +46,20 @@ set_pair s = (s.path.items, s.value)
 abbrev pub set_pairs : List Setting → List (List ℕ × Option (List ℕ))
 set_pairs settings = map set_pair settings
 
+-- the keys rise
+abbrev pub IsRising : List Setting → Type 0
+IsRising settings = T (is_sorted (slice_cmp nat_cmp) (set_pairs settings))
+
 -- ---- where a stub hangs
 
 -- whether an item's path goes on with some nibbles
-abbrev pub goes_on_from : List ℕ → Option Item → Bool
-goes_on_from nibbles None = false
-goes_on_from nibbles (Some i) = starts_with nat_eq (path_of_item i) nibbles
+abbrev pub item_goes_on : List ℕ → Option Item → Bool
+item_goes_on nibbles None = false
+item_goes_on nibbles (Some i) = starts_with nat_eq (path_of_item i) nibbles
 
 abbrev pub hangs_between : Option Item → List ℕ → Option Item → Bool
 hangs_between before [] after = true
-hangs_between before (x ∷ path) after = goes_on_from (take (length path) (x ∷ path)) before || goes_on_from (take (length path) (x ∷ path)) after
+hangs_between before (x ∷ path) after = item_goes_on (take (length path) (x ∷ path)) before || item_goes_on (take (length path) (x ∷ path)) after
 
 -- a stub of the root has no other items beside it
 abbrev pub IsBelowRoot : Item → Type 0

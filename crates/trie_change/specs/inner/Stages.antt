@@ -1,5 +1,5 @@
 -- How far a job has come that changes a state.
-use Rattle.std.specs.Prelude.{◌≡◌, ◌+◌, ◌≤◌, vec_len, vec_capacity, true, false, is_some, ℕ, List, [], ◌∷◌, map, filter, All, IfSome, IsPermutation, Option, Some, None}
+use Rattle.std.specs.Prelude.{◌≡◌, ◌+◌, ◌≤◌, vec_len, vec_capacity, true, false, is_some, ℕ, List, [], ◌∷◌, map, filter, All, IfSome, IsPermutation, Option, None}
 use Rattle.std.specs.Ordering.{nat_cmp}
 use Rattle.std.specs.Cmp.Lexicographic.{slice_cmp}
 use Rattle.std.specs.FinMap.{FinMap, empty, entries, insert}
@@ -16,7 +16,6 @@ use Rattle.trie_read.specs.Paths.{Hangs}
 use Rattle.trie_change.specs.ChangedKeys.{keys_in_changes}
 use Rattle.trie_change.specs.Frontier.{IsFrontier, IsHanging, is_under}
 use Rattle.trie_change.specs.inner.InOrder.{IsOff, RootIsAlone, begins_one, in_place, set_pairs, stubs_of}
-use Rattle.trie_change.specs.inner.Merged.{HasBytes}
 use Rattle.trie_change.specs.inner.Settled.{fed_nodes}
 use Rattle.trie_change.specs.declared.change_job.ChangeJob.{ChangeJob}
 use Rattle.trie_change.specs.declared.frontier.Fed.{Fed}
@@ -68,8 +67,8 @@ pub record JobParts : Type 0 where
   pub found : List Item
   pub later : List Item
 
-abbrev pub parts_of_job : ChangeJob → JobParts
-parts_of_job j = record { settings = j.settings.items; fed = j.fed.items; wanted = j.wanted; found = j.found.items; later = j.later.items }
+abbrev pub job_parts : ChangeJob → JobParts
+job_parts j = record { settings = j.settings.items; fed = j.fed.items; wanted = j.wanted; found = j.found.items; later = j.later.items }
 
 abbrev pub items_in : JobParts → List Item
 items_in j = in_place j.found j.wanted j.later
@@ -111,8 +110,8 @@ IsWaiting [] j = j.wanted ≡ None → j.later ≡ []
 IsWaiting (s ∷ settings) j = is_some j.wanted ≡ true
 
 pub record IsFedSoFar (j : ChangeJob) (m : State) (changes : List Change) (todo : List PathNode) : Type 0 where
-  pub under_way : IsUnderWay j.settings.items (parts_of_job j) m changes todo
-  pub waiting : IsWaiting j.settings.items (parts_of_job j)
+  pub under_way : IsUnderWay j.settings.items (job_parts j) m changes todo
+  pub waiting : IsWaiting j.settings.items (job_parts j)
 
 -- the items are the keys that are set, with their values
 pub record IsCreated (j : ChangeJob) (changes : List Change) : Type 0 where

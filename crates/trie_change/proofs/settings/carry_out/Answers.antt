@@ -1,4 +1,4 @@
-use Rattle.std.proofs.Common.{arith, List, ◌++◌, reverse, ap, subst, sym, ◌∙◌}
+use Rattle.std.proofs.Common.{arith, List, reverse, subst, sym, ◌∙◌}
 use Rattle.trie_change.specs.declared.frontier.Item.{Item}
 use Rattle.trie_change.specs.inner.Merged.{IsMerged}
 use Rattle.trie_change.proofs.CarriedStep.{all_set, no_items, one_set}

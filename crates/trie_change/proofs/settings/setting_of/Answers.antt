@@ -1,4 +1,4 @@
-use Rattle.std.proofs.Common.{ap, subst, sym, Some, Option, ℕ, List}
+use Rattle.std.proofs.Common.{subst, sym, Option, ℕ, List}
 use Rattle.std.specs.Prelude.{◌≤◌, IfSome, length}
 use Rattle.trie_model.specs.Limits.{most_in_value}
 use Rattle.trie_model.specs.Node.{IsPartial}

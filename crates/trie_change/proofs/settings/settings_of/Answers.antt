@@ -1,4 +1,4 @@
-use Rattle.std.proofs.Common.{◌≡◌, ◌++◌, ℕ, List, Option, ap, ap₂, subst, sym, ◌∙◌}
+use Rattle.std.proofs.Common.{◌++◌, List, ap₂, subst, sym, ◌∙◌}
 use Rattle.std.specs.List.{AllByRecursion}
 use Rattle.trie_change.specs.Changing.{IsLimitedSetting}
 use Rattle.trie_change.specs.inner.InOrder.{set_pairs}

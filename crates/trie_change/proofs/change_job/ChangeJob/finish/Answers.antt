@@ -1,6 +1,6 @@
-use Rattle.std.proofs.Common.{◌≡◌, List, [], ap, subst, sym}
+use Rattle.std.proofs.Common.{List, [], subst, sym}
 use Rattle.std.specs.Prelude.{IfOk}
-use Rattle.trie_model.specs.Nodes.{PathNode, nodes_without, stored_nodes}
+use Rattle.trie_model.specs.Nodes.{PathNode, stored_nodes}
 use Rattle.trie_model.specs.State.{apply, no_keys}
 use Rattle.trie_model.specs.Trie.{trie_root}
 use Rattle.trie_change.specs.Deltas.{IsDeltaOf}
@@ -8,7 +8,6 @@ use Rattle.trie_change.specs.inner.Settled.{AreEnough}
 use Rattle.trie_change.specs.declared.frontier.Item.{Item}
 use Rattle.trie_change.proofs.JobItems.{all_without}
 use Rattle.trie_change.proofs.StageEnds.{finished, finished_new}
-use Rattle.trie_change.proofs.StageMoves.{carried}
 use Rattle.trie_change.proofs.change_job.ChangeJob.finish.Goals as goal
 
 pub returns-clause-changed : goal.returns-clause-changed

@@ -1,9 +1,9 @@
-use Rattle.std.proofs.Common.{◌≡◌, true, List, [], None, Some, ap, subst, sym, ◌∙◌, arith}
+use Rattle.std.proofs.Common.{◌≡◌, true, List, [], None, subst, sym, ◌∙◌, arith}
 use Rattle.std.specs.List.{AllByRecursion}
 use Rattle.std.specs.Prelude.{IfSome, Option}
 use Rattle.trie_change.specs.Changing.{IsLimitedSetting}
 use Rattle.trie_change.specs.Frontier.{IsLimited}
-use Rattle.trie_change.specs.inner.InOrder.{IsOff, begins_one}
+use Rattle.trie_change.specs.inner.InOrder.{IsOff, IsRising, begins_one}
 use Rattle.trie_change.specs.inner.Stages.{IsCarriedOut, IsOnTheWay, IsUnderWay}
 use Rattle.trie_change.specs.declared.frontier.Item.{Item}
 use Rattle.trie_change.specs.declared.frontier.Stub.{Stub}
@@ -11,6 +11,7 @@ use Rattle.trie_change.specs.declared.settings.Setting.{Setting}
 use Rattle.trie_change.proofs.CarriedOver.{all_reversed}
 use Rattle.trie_change.proofs.GoingOn.{after_set, no_settings, none_left, some_settings}
 use Rattle.trie_change.proofs.LimitsKept.{limits_merged, limits_moved}
+use Rattle.trie_change.proofs.SetBy.{rises}
 use Rattle.trie_change.proofs.StageMoves.{is_carried_out, is_on_the_way, moved_there, under_way_there, waits_there}
 use Rattle.trie_change.proofs.change_job.ChangeJob.go_on.Goals as goal
 
@@ -37,8 +38,10 @@ returns-then-is_some-clause-stage c = λ m changes todo u.
     let after : IsOnTheWay (record { settings = j.settings.items; fed = j.fed.items; wanted = c.move_to_set.result; found = c.move_to_set.new.found.items; later = c.move_to_set.new.later.items }) m changes todo =
     moved_there j.settings.items j.fed.items j.found.items j.later.items c.move_to_set.new.found.items c.move_to_set.new.later.items c.move_to_set.result m changes todo before
     c.move_to_set.ensures.items
-    (subst (λ (ss : List Setting). AllByRecursion (IsOff ss) j.found.items → AllByRecursion (IsOff ss) c.move_to_set.new.found.items) c.as_slice.ensures.value c.move_to_set.ensures.off)
-    (subst (λ (ss : List Setting). IfSome c.move_to_set.result (λ s. begins_one ss s.path.items ≡ true)) c.as_slice.ensures.value c.move_to_set.ensures.wanted) in
+    (subst (λ (ss : List Setting). IsRising ss → AllByRecursion (IsOff ss) j.found.items → AllByRecursion (IsOff ss) c.move_to_set.new.found.items) c.as_slice.ensures.value
+    c.move_to_set.ensures.off (rises j.settings.items changes before.set))
+    (subst (λ (ss : List Setting). IsRising ss → IfSome c.move_to_set.result (λ s. begins_one ss s.path.items ≡ true)) c.as_slice.ensures.value
+    c.move_to_set.ensures.wanted (rises j.settings.items changes before.set)) in
     record {
       under_way = under_way_there j.settings.items (record { settings = j.settings.items; fed = j.fed.items; wanted = c.move_to_set.result; found = c.move_to_set.new.found.items; later = c.move_to_set.new.later.items })
           m changes todo some after;
@@ -75,7 +78,9 @@ returns-clause-stage c = λ m changes todo u.
     let out : IsCarriedOut (record { settings = []; fed = j.fed.items; wanted = None; found = []; later = c.carry_out.new.later.items }) m changes todo =
     after_set j.settings.items j.fed.items j.found.items j.later.items c.move_to_set.new.found.items c.move_to_set.new.later.items c.carry_out.new.later.items c.move_to_set.result m changes todo
     some way c.move_to_set.ensures.items
-    (subst (λ (ss : List Setting). AllByRecursion (IsOff ss) j.found.items → AllByRecursion (IsOff ss) c.move_to_set.new.found.items) c.as_slice.ensures.value c.move_to_set.ensures.off)
+    (subst (λ (ss : List Setting). IsRising ss → AllByRecursion (IsOff ss) j.found.items → AllByRecursion (IsOff ss) c.move_to_set.new.found.items) c.as_slice.ensures.value
+    c.move_to_set.ensures.off (rises j.settings.items changes
+    (is_on_the_way j.settings.items (record { settings = j.settings.items; fed = j.fed.items; wanted = None; found = j.found.items; later = j.later.items }) m changes todo some way).set))
     none (c.move_to_set.ensures.last none) c.carry_out.ensures.merged in
     let there : IsCarriedOut (record { settings = c.carry_out.new.settings.items; fed = j.fed.items; wanted = None; found = c.carry_out.new.found.items; later = c.carry_out.new.later.items }) m changes todo =
     subst (λ (ss : List Setting). IsCarriedOut (record { settings = ss; fed = j.fed.items; wanted = None; found = c.carry_out.new.found.items; later = c.carry_out.new.later.items }) m changes todo) (sym c.carry_out.ensures.settings)

@@ -1,8 +1,7 @@
-use Rattle.std.proofs.Common.{List, None, ap, subst}
+use Rattle.std.proofs.Common.{None, subst}
 use Rattle.std.specs.Prelude.{Option}
 use Rattle.trie_model.specs.State.{apply}
 use Rattle.trie_change.specs.declared.frontier.Stub.{Stub}
-use Rattle.trie_change.specs.inner.InOrder.{in_place}
 use Rattle.trie_change.specs.inner.Stages.{IsCarriedOut}
 use Rattle.trie_change.proofs.LimitsKept.{limits_moved}
 use Rattle.trie_change.proofs.StageMoves.{moved_after, under_way_after, waits_after}

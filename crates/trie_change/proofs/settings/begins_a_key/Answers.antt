@@ -1,0 +1,24 @@
+use Rattle.std.proofs.Common.{◌≡◌, ◌<◌, true, length, List, ℕ, ap, subst, sym, ◌∙◌, arith, rules}
+use Rattle.std.specs.Prelude.{nat_eq}
+use Rattle.std.specs.List.{AllWithin, starts_with}
+use Rattle.std.proofs.lemmas.List.Sorted.{IsPartitionPoint-from_clause}
+use Rattle.trie_change.specs.declared.settings.Setting.{Setting}
+use Rattle.trie_change.proofs.KeysBegun.{first_begins, is_before, none_begins, parted}
+use Rattle.trie_change.proofs.settings.begins_a_key.Goals as goal
+
+pub returns-then-first-settings : goal.returns-then-first-settings
+returns-then-first-settings c = λ rising.
+    let xs = c.args.settings.now in
+    let path = c.args.path.now in
+    let point = IsPartitionPoint-from_clause (is_before path) xs c.partition_point-first.result c.partition_point-first.ensures.partitioned (parted xs path rising) (λ a r q k. search rules) in
+    sym (none_begins xs path (subst (AllWithin (λ (s : Setting). is_before path s ≡ true) xs 0) c.if-first-settings.true point.0))
+
+pub returns : goal.returns
+returns c = λ rising.
+    let xs = c.args.settings.now in
+    let path = c.args.path.now in
+    let point = IsPartitionPoint-from_clause (is_before path) xs c.partition_point-first.result c.partition_point-first.ensures.partitioned (parted xs path rising) (λ a r q k. search rules) in
+    let few : c.partition_point-first.result < length xs = omega (arith, c.partition_point-first.ensures.bound) in
+    c.starts_with.ensures.value
+    ∙ ap (λ (p : List ℕ). starts_with nat_eq p path) c.as_slice.ensures
+    ∙ sym (first_begins xs path c.partition_point-first.result c.index-settings-first.result rising few point.0 point.1)
