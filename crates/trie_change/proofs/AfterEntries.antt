@@ -17,10 +17,10 @@ use Rattle.trie_change.specs.Changing.{IsLimitedSetting}
 use Rattle.trie_change.specs.declared.settings.Setting.{Setting}
 use Rattle.trie_change.specs.inner.InOrder.{set_pairs}
 use Rattle.trie_change.specs.inner.Merged.{HasBytes}
-use Rattle.trie_change.specs.inner.Stages.{set_by, set_from}
 use Rattle.trie_change.proofs.MergedSteps.{Setted, overlaid}
 use Rattle.trie_change.proofs.Nibbled.{entry_found, found_itself}
 use Rattle.trie_change.proofs.SetBy.{after_at}
+use Rattle.trie_change.specs.Settings.{settings_of, settings_from}
 
 bytes_again : (k : List ℕ) → AllByRecursion (λ n. n < 16) (nibbles_of k) → AllByRecursion (λ b. b < 256) k
 bytes_again [] a = tt
@@ -72,24 +72,24 @@ among_all P [] x a i = absurd i
 among_all P (y ∷ ys) x a (inl e) = subst P e a.0
 among_all P (y ∷ ys) x a (inr i) = among_all P ys x a.1 i
 
-pub entries_after : (m : State) (changes : List Change) (settings : List Setting) → All IsEntry (entries m) → set_pairs settings ≡ set_by changes
+pub entries_after : (m : State) (changes : List Change) (settings : List Setting) → All IsEntry (entries m) → set_pairs settings ≡ settings_of changes
     → AllByRecursion IsLimitedSetting settings → AllByRecursion HasBytes settings → All IsEntry (entries (apply m changes))
 entries_after m changes settings within e limits bytes =
-    All-from_recursion IsEntry (entries (apply m changes)) (each_entry (entries (apply m changes)) (λ x a. by_set x a (get (set_from empty changes) x.0) refl))
+    All-from_recursion IsEntry (entries (apply m changes)) (each_entry (entries (apply m changes)) (λ x a. by_set x a (get (settings_from empty changes) x.0) refl))
   where
-    value : (x : List ℕ × List ℕ) → Among x (entries (apply m changes)) → overlaid (get (set_from empty changes) x.0) (get m x.0) ≡ Some x.1
+    value : (x : List ℕ × List ℕ) → Among x (entries (apply m changes)) → overlaid (get (settings_from empty changes) x.0) (get m x.0) ≡ Some x.1
     value x a =
         sym (after_at changes m x.0) ∙ get-entries (apply m changes) x.0 ∙ found_itself (entries (apply m changes)) x (entries_sorted (apply m changes)) a
 
-    by_set : (x : List ℕ × List ℕ) → Among x (entries (apply m changes)) → (o : Option (Option (List ℕ))) → get (set_from empty changes) x.0 ≡ o → IsEntry x
+    by_set : (x : List ℕ × List ℕ) → Among x (entries (apply m changes)) → (o : Option (Option (List ℕ))) → get (settings_from empty changes) x.0 ≡ o → IsEntry x
     by_set x a None h =
         let old : get m x.0 ≡ Some x.1 = sym (ap (λ (o : Option (Option (List ℕ))). overlaid o (get m x.0)) h) ∙ value x a in
         among_all IsEntry (entries m) x (recursion_from_All IsEntry (entries m) within) (entry_found x.0 (entries m) x.1 (sym (get-entries m x.0) ∙ old))
     by_set x a (Some v) h =
         let new : v ≡ Some x.1 = sym (ap (λ (o : Option (Option (List ℕ))). overlaid o (get m x.0)) h) ∙ value x a in
         let s : (s : Setting) × IsGood s × (s.path.items ≡ nibbles_of x.0) × (s.value ≡ v) =
-        setting_of settings (entries (set_from empty changes)) x.0 v (both_good settings limits bytes) e
-        (entry_found x.0 (entries (set_from empty changes)) v (sym (get-entries (set_from empty changes) x.0) ∙ h)) in
+        setting_of settings (entries (settings_from empty changes)) x.0 v (both_good settings limits bytes) e
+        (entry_found x.0 (entries (settings_from empty changes)) v (sym (get-entries (settings_from empty changes) x.0) ∙ h)) in
         good_entry s.0 x.0 x.1 s.1 s.2 (s.3 ∙ new)
 
 pub none_within : All IsEntry (entries no_keys)

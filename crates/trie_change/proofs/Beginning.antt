@@ -31,7 +31,7 @@ use Rattle.trie_change.specs.declared.frontier.Stub.{Stub}
 use Rattle.trie_change.specs.declared.settings.Setting.{Setting}
 use Rattle.trie_change.specs.inner.InOrder.{set_pairs, stubs_of}
 use Rattle.trie_change.specs.inner.Merged.{HasBytes, IsMerged}
-use Rattle.trie_change.specs.inner.Stages.{IsCarriedOut, IsHeld, IsSplit, IsUnderWay, all_under, set_by, set_from, stored_under}
+use Rattle.trie_change.specs.inner.Stages.{IsCarriedOut, IsHeld, IsSplit, IsUnderWay, all_under, stored_under}
 use Rattle.trie_change.proofs.AfterEntries.{entries_after, none_within}
 use Rattle.trie_change.proofs.CarriedOver.{frontier_after, stubs_stay}
 use Rattle.trie_change.proofs.MergedSteps.{Setted, same_key}
@@ -40,8 +40,9 @@ use Rattle.trie_change.proofs.SetBy.{set_keys}
 use Rattle.trie_change.proofs.Split.{all_right}
 use Rattle.trie_change.proofs.TakenStage.{with_wanted}
 use Rattle.trie_change.proofs.Unfolds.{after_nothing}
+use Rattle.trie_change.specs.Settings.{settings_from}
 
-pub same_settings : (changes : List Change) → settings_of changes ≡ set_by changes
+pub same_settings : (changes : List Change) → settings_of changes ≡ settings_of changes
 same_settings changes = refl
 
 -- ---- the root's stub
@@ -84,23 +85,23 @@ begins_held m changes s path hash = record {
 
 -- ---- changes that set nothing are none
 
-nothing_found : (changes : List Change) (k : List ℕ) → set_by changes ≡ [] → get (set_from empty changes) k ≡ None
-nothing_found changes k e = get-entries (set_from empty changes) k ∙ ap (find key_cmp k) (none_mapped (entries (set_from empty changes)) e)
+nothing_found : (changes : List Change) (k : List ℕ) → settings_of changes ≡ [] → get (settings_from empty changes) k ≡ None
+nothing_found changes k e = get-entries (settings_from empty changes) k ∙ ap (find key_cmp k) (none_mapped (entries (settings_from empty changes)) e)
   where
     none_mapped : (es : List Setted) → map (λ (x : Setted). let y : Setted = (nibbles_of x.0, x.1) in y) es ≡ [] → es ≡ []
     none_mapped [] h = refl
     none_mapped (x ∷ es) h = absurd cc
 
-no_change : (changes : List Change) → set_by changes ≡ [] → changes ≡ []
+no_change : (changes : List Change) → settings_of changes ≡ [] → changes ≡ []
 no_change [] e = refl
 no_change (c ∷ cs) e =
-    let found : is_some (get (set_from empty (c ∷ cs)) c.key) ≡ true =
+    let found : is_some (get (settings_from empty (c ∷ cs)) c.key) ≡ true =
     set_keys (c ∷ cs) c.key ∙ ap (λ b. b || list_any (λ k. bytes_eq k c.key) (keys_in_changes cs)) ((bytes_eq-Decides c.key c.key).1 refl) in
     let no : false ≡ true = sym (ap is_some (nothing_found (c ∷ cs) c.key e)) ∙ found in absurd cc
 
 -- ---- the first stage
 
-by_settings : (settings all : List Setting) (m : State) (changes : List Change) (s : Stub) → all ≡ settings → All IsEntry (entries m) → set_pairs settings ≡ set_by changes
+by_settings : (settings all : List Setting) (m : State) (changes : List Change) (s : Stub) → all ≡ settings → All IsEntry (entries m) → set_pairs settings ≡ settings_of changes
     → All IsEntry (entries (apply m changes)) → s.path.items ≡ [] → s.hash.0 ≡ trie_root m
     → IsUnderWay all (with_wanted settings [] None [] (item.Stub s ∷ [])) m changes (change_fetches m changes)
 by_settings settings [] m changes s e within set after path hash =

@@ -24,7 +24,6 @@ use Rattle.trie_change.specs.declared.frontier.Stub.{Stub}
 use Rattle.trie_change.specs.declared.settings.Setting.{Setting}
 use Rattle.trie_change.specs.inner.InOrder.{IsOff, begins_one, set_pairs, stubs_of}
 use Rattle.trie_change.specs.inner.Merged.{IsMerged}
-use Rattle.trie_change.specs.inner.Stages.{set_by}
 use Rattle.trie_change.proofs.HangingBetween.{neither_true}
 use Rattle.trie_change.proofs.MergedSteps.{IsMergedWell, overlaid, same_key}
 use Rattle.trie_change.proofs.MergedWell.{IsClear, merged_well}
@@ -33,6 +32,7 @@ use Rattle.trie_change.proofs.OffWay.{at_path}
 use Rattle.trie_change.proofs.Orders.{key_cmp}
 use Rattle.trie_change.proofs.SetBy.{begins_changed, set_over, sorted_set}
 use Rattle.trie_change.proofs.Unchanged.{below_stays}
+use Rattle.trie_change.specs.Settings.{settings_of}
 
 -- ---- what holds of the stubs of items
 
@@ -57,7 +57,7 @@ same_stubs_hold P items others e a = items_hold P others (subst (AllByRecursion 
 abbrev pub IsOffStub : List (List ℕ) → Stub → Type 0
 IsOffStub keys s = is_changed keys (at_path s.path.items) ≡ false
 
-pub to_off_stubs : (settings : List Setting) (changes : List Change) (items : List Item) → set_pairs settings ≡ set_by changes → AllByRecursion (IsOff settings) items
+pub to_off_stubs : (settings : List Setting) (changes : List Change) (items : List Item) → set_pairs settings ≡ settings_of changes → AllByRecursion (IsOff settings) items
     → AllByRecursion (OfStub (IsOffStub (keys_in_changes changes))) items
 to_off_stubs settings changes [] e a = tt
 to_off_stubs settings changes (item.Entry k ∷ items) e a = (tt, to_off_stubs settings changes items e a.1)
@@ -119,7 +119,7 @@ from_stubs ss (item.Stub s ∷ items) a = (a.0, from_stubs ss items a.1)
 
 -- ---- the items that come of both
 
-module _ (m : State) (changes : List Change) (settings : List Setting) (found later : List Item) (set : set_pairs settings ≡ set_by changes)
+module _ (m : State) (changes : List Change) (settings : List Setting) (found later : List Item) (set : set_pairs settings ≡ settings_of changes)
     (front : IsFrontier (suffixes_of m) found) (off : AllByRecursion (IsOff settings) found) (merged : IsMerged (reverse found) (reverse settings) later) where
   turned : reverse (reverse found) ≡ found
   turned = reverse-reverse found

@@ -29,18 +29,19 @@ use Rattle.trie_change.specs.declared.frontier.Stub.{Stub}
 use Rattle.trie_change.specs.declared.settings.Setting.{Setting}
 use Rattle.trie_change.specs.inner.InOrder.{IsOff, begins_one, set_pairs}
 use Rattle.trie_change.specs.inner.Known.{all_known, known_in}
-use Rattle.trie_change.specs.inner.Stages.{IsHeld, IsOffKeys, all_under, set_by, stored_under}
+use Rattle.trie_change.specs.inner.Stages.{IsHeld, IsOffKeys, all_under, stored_under}
 use Rattle.trie_change.proofs.CarriedOver.{to_off_stubs}
 use Rattle.trie_change.proofs.HungUnder.{hung_none, path_not_there}
 use Rattle.trie_change.proofs.OffWay.{changed_first, left_out, off_none, unhung_first}
 use Rattle.trie_change.proofs.OneTaken.{ComesFirst, held_after, is_first, stub_is}
 use Rattle.trie_change.proofs.Opened.{IsOpen, opened}
 use Rattle.trie_change.proofs.SetBy.{begins_changed}
+use Rattle.trie_change.specs.Settings.{settings_of}
 
 -- ---- on the way to a key that is set
 
 pub on_the_way_first : (m : State) (changes : List Change) (settings : List Setting) (found rest : List Item) (s : Stub) (o : IsOpen (suffixes_of m) s)
-    → set_pairs settings ≡ set_by changes → AllByRecursion (IsOff settings) found → begins_one settings s.path.items ≡ true
+    → set_pairs settings ≡ settings_of changes → AllByRecursion (IsOff settings) found → begins_one settings s.path.items ≡ true
     → ComesFirst (suffixes_of m) m changes found s (filter is_stored o.rest) rest
 on_the_way_first m changes settings found rest s o set off on =
     let keys : List (List ℕ) = keys_in_changes changes in

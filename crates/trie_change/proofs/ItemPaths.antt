@@ -8,7 +8,8 @@ use Rattle.trie_root.proofs.Rows.{unlike}
 use Rattle.trie_read.proofs.Ways.{put_back}
 use Rattle.trie_change.specs.declared.frontier.Item.{Item}
 use Rattle.trie_change.specs.declared.frontier.Item.TheVariants as item
-use Rattle.trie_change.specs.inner.Built.{ItemBefore, ItemsRise, PathBefore, item_path, rank_of}
+use Rattle.trie_change.specs.inner.Built.{ItemBefore, ItemsRise, PathBefore, rank_of}
+use Rattle.trie_change.specs.Frontier.{item_path}
 
 pub drop_itself : (q r : List ℕ) → drop (length q) (q ++ r) ≡ r
 drop_itself [] r = refl

@@ -8,10 +8,10 @@ use Rattle.trie_root.proofs.Fronts.{none_with_other}
 use Rattle.trie_root.proofs.Prefixes.{below-append, begins_further, without}
 use Rattle.trie_root.proofs.Rows.{joined}
 use Rattle.trie_root.proofs.Stripped.{AllBegin}
-use Rattle.trie_change.specs.Frontier.{suffixes_for}
+use Rattle.trie_change.specs.Frontier.{suffixes_for, item_path}
 use Rattle.trie_change.specs.declared.frontier.Item.{Item}
 use Rattle.trie_change.specs.declared.frontier.Item.TheVariants as item
-use Rattle.trie_change.specs.inner.Built.{GoesOnFrom, IsPastPath, item_path, rank_after, rank_of}
+use Rattle.trie_change.specs.inner.Built.{GoesOnFrom, IsPastPath, rank_after, rank_of}
 use Rattle.trie_change.proofs.ItemPaths.{drop_itself}
 
 -- ---- prefixes put before and taken away

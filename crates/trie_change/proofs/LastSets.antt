@@ -18,10 +18,10 @@ use Rattle.trie_model.specs.Node.{IsPartial}
 use Rattle.trie_root.proofs.Nibble.{length-nibbles_of}
 use Rattle.trie_root.proofs.ReadOffStates.{nibbles_small}
 use Rattle.trie_change.specs.inner.LastSet.{IsShortEntry, set_all}
-use Rattle.trie_change.specs.inner.Stages.{set_from}
 use Rattle.trie_change.proofs.MergedSteps.{Setted, same_key}
 use Rattle.trie_change.proofs.Orders.{key_cmp}
 use Rattle.trie_change.proofs.SetBy.{SetMap}
+use Rattle.trie_change.specs.Settings.{settings_from}
 
 pub partial_of_key : (key : List ℕ) → All (λ b. b < 256) key → length key ≤ most_in_key → IsPartial (nibbles_of key)
 partial_of_key key all few = record {
@@ -41,7 +41,7 @@ put_is (e ∷ es) k v =
       | Greater ↦ ap (λ (xs : List Setted). e ∷ xs) (put_is es k v)
     ]
 
-all_set : (cs : List Change) (set : SetMap) → set_all (entries set) cs ≡ entries (set_from set cs)
+all_set : (cs : List Change) (set : SetMap) → set_all (entries set) cs ≡ entries (settings_from set cs)
 all_set [] set = refl
 all_set (c ∷ cs) set =
     ap (λ (es : List Setted). set_all es cs) (put_is (entries set) c.key c.value ∙ sym (entries-insert nat_list_cmp_total set c.key c.value))
@@ -52,7 +52,7 @@ none_in_empty =
     same_entries key_cmp nat_list_cmp_total same_key (entries (empty {X = Option (List ℕ)} {R = slice_cmp nat_cmp})) [] (entries_sorted empty) tt
     (λ q. sym (get-entries (empty {X = Option (List ℕ)} {R = slice_cmp nat_cmp}) q) ∙ get-empty (slice_cmp nat_cmp) q)
 
-pub set_all_is : (changes : List Change) → set_all [] changes ≡ entries (set_from empty changes)
+pub set_all_is : (changes : List Change) → set_all [] changes ≡ entries (settings_from empty changes)
 set_all_is changes = ap (λ (es : List Setted). set_all es changes) (sym none_in_empty) ∙ all_set changes empty
 
 -- ---- the limits

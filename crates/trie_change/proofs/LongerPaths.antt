@@ -4,10 +4,9 @@ use Rattle.std.specs.Prelude.{nat_eq}
 use Rattle.std.specs.List.{starts_with}
 use Rattle.trie_model.specs.Trie.{Suffix, below, with_prefix}
 use Rattle.trie_read.proofs.Among.{Among}
-use Rattle.trie_change.specs.Frontier.{IsItem, is_at_stub, suffixes_for}
+use Rattle.trie_change.specs.Frontier.{IsItem, is_at_stub, suffixes_for, item_path}
 use Rattle.trie_change.specs.declared.frontier.Item.{Item}
 use Rattle.trie_change.specs.declared.frontier.Item.TheVariants as item
-use Rattle.trie_change.specs.inner.InOrder.{path_of_item}
 use Rattle.trie_change.proofs.Disjoint.{begins, goes_on_from}
 use Rattle.trie_change.proofs.SortedParts.{one_begins, there_some}
 
@@ -38,11 +37,11 @@ module _ (ss : List Suffix) (p q : List ℕ) (y : ℕ) (path : p ≡ q ++ y ∷ 
   ]
 
   -- an item that stands for something that goes on with some nibbles short of the path does so itself
-  pub item_path : (a : Item) (v : Suffix) → Among v (suffixes_for ss a) → starts_with nat_eq v.0 q ≡ true → is_at_stub p a ≡ false
-      → starts_with nat_eq (path_of_item a) q ≡ true
-  item_path (item.Entry e) v (inl same) h off = ap (λ (x : Suffix). starts_with nat_eq x.0 q) same ∙ h
-  item_path (item.Entry e) v (inr a) h off = absurd a
-  item_path (item.Stub s) v a h off =
+  pub item_goes_through : (a : Item) (v : Suffix) → Among v (suffixes_for ss a) → starts_with nat_eq v.0 q ≡ true → is_at_stub p a ≡ false
+      → starts_with nat_eq (item_path a) q ≡ true
+  item_goes_through (item.Entry e) v (inl same) h off = ap (λ (x : Suffix). starts_with nat_eq x.0 q) same ∙ h
+  item_goes_through (item.Entry e) v (inr a) h off = absurd a
+  item_goes_through (item.Stub s) v a h off =
       let further : (r : List ℕ) × (v.0 ≡ s.path.items ++ r) = goes_after s.path.items (below s.path.items ss) v a in
       elim (one_begins s.path.items q further.0 (ap (λ (x : List ℕ). starts_with nat_eq x q) (sym further.1) ∙ h)) [
         | inl does ↦ does
@@ -50,7 +49,7 @@ module _ (ss : List Suffix) (p q : List ℕ) (y : ℕ) (path : p ≡ q ++ y ∷ 
             let at : true ≡ false = sym (begins_through s.path.items q p above (begins_longer q (y ∷ []) p path)) ∙ off in absurd cc
       ]
 
-  pub item_there : (a : Item) → IsItem ss a → is_at_stub p a ≡ false → starts_with nat_eq (path_of_item a) q ≡ true → below q (suffixes_for ss a) ≡ [] → ⊥
+  pub item_there : (a : Item) → IsItem ss a → is_at_stub p a ≡ false → starts_with nat_eq (item_path a) q ≡ true → below q (suffixes_for ss a) ≡ [] → ⊥
   item_there (item.Entry e) is off h none = there_some q ((e.path.items, e.value) ∷ []) (e.path.items, e.value) (inl refl) h none
   item_there (item.Stub s) is off h none =
       let one : (v : Suffix) × Among v (with_prefix s.path.items (below s.path.items ss)) = item_some (item.Stub s) is off in

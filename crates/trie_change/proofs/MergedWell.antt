@@ -8,11 +8,11 @@ use Rattle.std.specs.FinMap.{is_sorted}
 use Rattle.trie_model.specs.Trie.{Suffix, below}
 use Rattle.trie_read.proofs.Among.{Among, among_either}
 use Rattle.trie_read.proofs.Rising.{all_weaker}
-use Rattle.trie_change.specs.Frontier.{IsItem, is_at_stub, suffixes_for}
+use Rattle.trie_change.specs.Frontier.{IsItem, is_at_stub, suffixes_for, item_path}
 use Rattle.trie_change.specs.declared.frontier.Item.{Item}
 use Rattle.trie_change.specs.declared.frontier.Item.TheVariants as item
 use Rattle.trie_change.specs.declared.settings.Setting.{Setting}
-use Rattle.trie_change.specs.inner.InOrder.{path_of_item, set_pair}
+use Rattle.trie_change.specs.inner.InOrder.{set_pair}
 use Rattle.trie_change.specs.inner.Merged.{IsBelowKey, IsMerged, comes_in, is_replaced, no_more_set, nothing_left, stays_above}
 use Rattle.trie_change.proofs.LongerPaths.{begins_longer, first_there, goes_after}
 use Rattle.trie_change.proofs.MergedComing.{comes}
@@ -34,7 +34,7 @@ front_pairs s settings h = front_sorted (rising_pairs settings) (set_pair s ∷ 
 
 -- an item above the greatest key that is set is above all
 above_all : (ss : List Suffix) (i : Item) (s : Setting) (settings : List Setting) → T (is_sorted key_cmp (rising_pairs (s ∷ settings)))
-    → key_cmp (path_of_item i) s.path.items ≡ Greater → (e : Suffix) → Among e (suffixes_for ss i) → (y : Setted) → Among y (rising_pairs (s ∷ settings)) → key_cmp y.0 e.0 ≡ Less
+    → key_cmp (item_path i) s.path.items ≡ Greater → (e : Suffix) → Among e (suffixes_for ss i) → (y : Setted) → Among y (rising_pairs (s ∷ settings)) → key_cmp y.0 e.0 ≡ Less
 above_all ss i s settings h g e ie y iy =
     elim (among_either y (rising_pairs settings) (set_pair s ∷ []) (subst (Among y) (pairs_more s settings) iy)) [
       | inl earlier ↦
@@ -44,7 +44,7 @@ above_all ss i s settings h g e ie y iy =
       | inr last ↦ elim last [ inl same ↦ ap (λ (z : Setted). key_cmp z.0 e.0) (sym same) ∙ over i g ie | inr none ↦ absurd none ]
     ]
   where
-    over : (j : Item) → key_cmp (path_of_item j) s.path.items ≡ Greater → Among e (suffixes_for ss j) → key_cmp s.path.items e.0 ≡ Less
+    over : (j : Item) → key_cmp (item_path j) s.path.items ≡ Greater → Among e (suffixes_for ss j) → key_cmp s.path.items e.0 ≡ Less
     over (item.Entry k) g (inl same) = ap (λ (z : Suffix). key_cmp s.path.items z.0) (sym same) ∙ flipped k.path.items s.path.items g
     over (item.Entry k) g (inr none) = absurd none
     over (item.Stub t) g a =
@@ -52,7 +52,7 @@ above_all ss i s settings h g e ie y iy =
         ap (key_cmp s.path.items) further.1 ∙ below_longer s.path.items t.path.items further.0 (flipped t.path.items s.path.items g)
 
 -- where the last item is below a key, all are
-lower_one : (ss : List Suffix) (i : Item) (s : Setting) → is_at_stub s.path.items i ≡ false → key_cmp (path_of_item i) s.path.items ≡ Less
+lower_one : (ss : List Suffix) (i : Item) (s : Setting) → is_at_stub s.path.items i ≡ false → key_cmp (item_path i) s.path.items ≡ Less
     → (e : Suffix) → Among e (suffixes_for ss i) → key_cmp e.0 s.path.items ≡ Less
 lower_one ss (item.Entry k) s off l e (inl same) = ap (λ (z : Suffix). key_cmp z.0 s.path.items) (sym same) ∙ l
 lower_one ss (item.Entry k) s off l e (inr none) = absurd none
@@ -80,7 +80,7 @@ lower_all ss (i ∷ items) s h are off b e a =
           (lower_one ss i s off.0 b v.0 v.1)
     ]
 
-not_a_stub : (ss : List Suffix) (i : Item) (items : List Item) (s : Setting) (settings : List Setting) (merged : List Item) → path_of_item i ≡ s.path.items
+not_a_stub : (ss : List Suffix) (i : Item) (items : List Item) (s : Setting) (settings : List Setting) (merged : List Item) → item_path i ≡ s.path.items
     → is_at_stub s.path.items i ≡ false → IsMergedWell ss items (s ∷ settings) merged → IsMergedWell ss (i ∷ items) (s ∷ settings) merged
 not_a_stub ss (item.Entry k) items s settings merged e off w = replaced ss k items s settings merged e w
 not_a_stub ss (item.Stub t) items s settings merged e off w =

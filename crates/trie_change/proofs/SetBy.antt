@@ -18,19 +18,19 @@ use Rattle.trie_read.proofs.Among.{Among}
 use Rattle.trie_change.specs.ChangedKeys.{keys_in_changes}
 use Rattle.trie_change.specs.declared.settings.Setting.{Setting}
 use Rattle.trie_change.specs.inner.InOrder.{IsRising, begins_one, set_pairs}
-use Rattle.trie_change.specs.inner.Stages.{set_by, set_from}
 use Rattle.trie_change.proofs.MergedSteps.{Setted, overlaid}
 use Rattle.trie_change.proofs.Nibbled.{entry_found, found_itself, found_nibbled, key_found, same_bools, sorted_nibbled}
 use Rattle.trie_change.proofs.OffWay.{at_path}
 use Rattle.trie_change.proofs.Orders.{key_cmp}
+use Rattle.trie_change.specs.Settings.{settings_of, settings_from}
 
 abbrev pub SetMap : Type 0
 SetMap = FinMap (slice_cmp nat_cmp) (Option (List ℕ))
 
-pub sorted_set : (changes : List Change) → T (is_sorted key_cmp (set_by changes))
-sorted_set changes = sorted_nibbled (entries (set_from empty changes)) (entries_sorted (set_from empty changes))
+pub sorted_set : (changes : List Change) → T (is_sorted key_cmp (settings_of changes))
+sorted_set changes = sorted_nibbled (entries (settings_from empty changes)) (entries_sorted (settings_from empty changes))
 
-pub rises : (settings : List Setting) (changes : List Change) → set_pairs settings ≡ set_by changes → IsRising settings
+pub rises : (settings : List Setting) (changes : List Change) → set_pairs settings ≡ settings_of changes → IsRising settings
 rises settings changes e = subst (λ (ps : List Setted). T (is_sorted key_cmp ps)) (sym e) (sorted_set changes)
 
 -- ---- the values
@@ -39,7 +39,7 @@ over : (b : Bool) (v : Option (List ℕ)) (x : Option (Option (List ℕ))) (o : 
 over true v x o = refl
 over false v x o = refl
 
-after_all : (cs : List Change) (m : State) (set : SetMap) (k : List ℕ) (o : Option (List ℕ)) → get m k ≡ overlaid (get set k) o → get (apply m cs) k ≡ overlaid (get (set_from set cs) k) o
+after_all : (cs : List Change) (m : State) (set : SetMap) (k : List ℕ) (o : Option (List ℕ)) → get m k ≡ overlaid (get set k) o → get (apply m cs) k ≡ overlaid (get (settings_from set cs) k) o
 after_all [] m set k o e = e
 after_all (c ∷ cs) m set k o e =
     after_all cs (with_key m c.key c.value) (insert set c.key c.value) k o
@@ -47,38 +47,38 @@ after_all (c ∷ cs) m set k o e =
     ∙ sym (ap (λ (x : Option (Option (List ℕ))). overlaid x o)
     (get-insert nat_list_cmp_total set c.key c.value k ∙ ap (λ t. cond t (Some c.value) (get set k)) (key_ties c.key k))))
 
-pub after_at : (changes : List Change) (m : State) (k : List ℕ) → get (apply m changes) k ≡ overlaid (get (set_from empty changes) k) (get m k)
+pub after_at : (changes : List Change) (m : State) (k : List ℕ) → get (apply m changes) k ≡ overlaid (get (settings_from empty changes) k) (get m k)
 after_at changes m k = after_all changes m empty k (get m k) (ap (λ (x : Option (Option (List ℕ))). overlaid x (get m k)) (sym (get-empty (slice_cmp nat_cmp) k)))
 
 at_key : (changes : List Change) (m : State) (k : List ℕ)
-    → find key_cmp (nibbles_of k) (suffixes_of (apply m changes)) ≡ overlaid (find key_cmp (nibbles_of k) (set_by changes)) (find key_cmp (nibbles_of k) (suffixes_of m))
+    → find key_cmp (nibbles_of k) (suffixes_of (apply m changes)) ≡ overlaid (find key_cmp (nibbles_of k) (settings_of changes)) (find key_cmp (nibbles_of k) (suffixes_of m))
 at_key changes m k =
     found_nibbled k (entries (apply m changes)) ∙ sym (get-entries (apply m changes) k) ∙ after_at changes m k
-    ∙ ap₂ overlaid (get-entries (set_from empty changes) k ∙ sym (found_nibbled k (entries (set_from empty changes))))
+    ∙ ap₂ overlaid (get-entries (settings_from empty changes) k ∙ sym (found_nibbled k (entries (settings_from empty changes))))
     (get-entries m k ∙ sym (found_nibbled k (entries m)))
 
 pub set_over : (changes : List Change) (m : State) (q : List ℕ)
-    → find key_cmp q (suffixes_of (apply m changes)) ≡ overlaid (find key_cmp q (set_by changes)) (find key_cmp q (suffixes_of m))
-set_over changes m q = by_set (find key_cmp q (set_by changes)) (find key_cmp q (suffixes_of m)) (find key_cmp q (suffixes_of (apply m changes))) refl refl refl
+    → find key_cmp q (suffixes_of (apply m changes)) ≡ overlaid (find key_cmp q (settings_of changes)) (find key_cmp q (suffixes_of m))
+set_over changes m q = by_set (find key_cmp q (settings_of changes)) (find key_cmp q (suffixes_of m)) (find key_cmp q (suffixes_of (apply m changes))) refl refl refl
   where
     at : (k : List ℕ) → q ≡ nibbles_of k
-        → find key_cmp q (suffixes_of (apply m changes)) ≡ overlaid (find key_cmp q (set_by changes)) (find key_cmp q (suffixes_of m))
+        → find key_cmp q (suffixes_of (apply m changes)) ≡ overlaid (find key_cmp q (settings_of changes)) (find key_cmp q (suffixes_of m))
     at k e =
         ap (λ (p : List ℕ). find key_cmp p (suffixes_of (apply m changes))) e ∙ at_key changes m k
-        ∙ ap (λ (p : List ℕ). overlaid (find key_cmp p (set_by changes)) (find key_cmp p (suffixes_of m))) (sym e)
+        ∙ ap (λ (p : List ℕ). overlaid (find key_cmp p (settings_of changes)) (find key_cmp p (suffixes_of m))) (sym e)
 
-    by_set : (x : Option (Option (List ℕ))) (y z : Option (List ℕ)) → find key_cmp q (set_by changes) ≡ x → find key_cmp q (suffixes_of m) ≡ y
+    by_set : (x : Option (Option (List ℕ))) (y z : Option (List ℕ)) → find key_cmp q (settings_of changes) ≡ x → find key_cmp q (suffixes_of m) ≡ y
         → find key_cmp q (suffixes_of (apply m changes)) ≡ z
-        → find key_cmp q (suffixes_of (apply m changes)) ≡ overlaid (find key_cmp q (set_by changes)) (find key_cmp q (suffixes_of m))
+        → find key_cmp q (suffixes_of (apply m changes)) ≡ overlaid (find key_cmp q (settings_of changes)) (find key_cmp q (suffixes_of m))
     by_set (Some v) y z a b c =
-        let k : (k : List ℕ) × (q ≡ nibbles_of k) = key_found q (entries (set_from empty changes)) v a in at k.0 k.1
+        let k : (k : List ℕ) × (q ≡ nibbles_of k) = key_found q (entries (settings_from empty changes)) v a in at k.0 k.1
     by_set None (Some v) z a b c = let k : (k : List ℕ) × (q ≡ nibbles_of k) = key_found q (entries m) v b in at k.0 k.1
     by_set None None (Some v) a b c = let k : (k : List ℕ) × (q ≡ nibbles_of k) = key_found q (entries (apply m changes)) v c in at k.0 k.1
     by_set None None None a b c = c ∙ sym (ap₂ overlaid a b)
 
 -- ---- the keys
 
-named : (cs : List Change) (set : SetMap) (q : List ℕ) → is_some (get (set_from set cs) q) ≡ (list_any (λ k. bytes_eq k q) (keys_in_changes cs) || is_some (get set q))
+named : (cs : List Change) (set : SetMap) (q : List ℕ) → is_some (get (settings_from set cs) q) ≡ (list_any (λ k. bytes_eq k q) (keys_in_changes cs) || is_some (get set q))
 named [] set q = refl
 named (c ∷ cs) set q =
     named cs (insert set c.key c.value) q
@@ -122,46 +122,46 @@ or_false : (b : Bool) → (b || false) ≡ b
 or_false true = refl
 or_false false = refl
 
-pub set_keys : (changes : List Change) (q : List ℕ) → is_some (get (set_from empty changes) q) ≡ list_any (λ k. bytes_eq k q) (keys_in_changes changes)
+pub set_keys : (changes : List Change) (q : List ℕ) → is_some (get (settings_from empty changes) q) ≡ list_any (λ k. bytes_eq k q) (keys_in_changes changes)
 set_keys changes q =
     named changes empty q ∙ ap (λ (o : Option (Option (List ℕ))). list_any (λ k. bytes_eq k q) (keys_in_changes changes) || is_some o) (get-empty (slice_cmp nat_cmp) q)
     ∙ or_false (list_any (λ k. bytes_eq k q) (keys_in_changes changes))
 
 -- a test passes for a key that is set where it passes for one that changes name
 same_keys : (changes : List Change) (test : List ℕ → Bool)
-    → list_any (λ (e : Setted). test e.0) (entries (set_from empty changes)) ≡ list_any test (keys_in_changes changes)
+    → list_any (λ (e : Setted). test e.0) (entries (settings_from empty changes)) ≡ list_any test (keys_in_changes changes)
 same_keys changes test =
-    same_bools (list_any (λ (e : Setted). test e.0) (entries (set_from empty changes))) (list_any test (keys_in_changes changes)) there back
+    same_bools (list_any (λ (e : Setted). test e.0) (entries (settings_from empty changes))) (list_any test (keys_in_changes changes)) there back
   where
     set : SetMap
-    set = set_from empty changes
+    set = settings_from empty changes
 
-    there : list_any (λ (e : Setted). test e.0) (entries (set_from empty changes)) ≡ true → list_any test (keys_in_changes changes) ≡ true
+    there : list_any (λ (e : Setted). test e.0) (entries (settings_from empty changes)) ≡ true → list_any test (keys_in_changes changes) ≡ true
     there h =
-        let e : (e : Setted) × Among e (entries (set_from empty changes)) × (test e.0 ≡ true) = any_found (λ (e : Setted). test e.0) (entries (set_from empty changes)) h in
-        let some : get (set_from empty changes) e.0.0 ≡ Some e.0.1 =
-        get-entries (set_from empty changes) e.0.0 ∙ found_itself (entries (set_from empty changes)) e.0 (entries_sorted (set_from empty changes)) e.1 in
+        let e : (e : Setted) × Among e (entries (settings_from empty changes)) × (test e.0 ≡ true) = any_found (λ (e : Setted). test e.0) (entries (settings_from empty changes)) h in
+        let some : get (settings_from empty changes) e.0.0 ≡ Some e.0.1 =
+        get-entries (settings_from empty changes) e.0.0 ∙ found_itself (entries (settings_from empty changes)) e.0 (entries_sorted (settings_from empty changes)) e.1 in
         let k : (k : List ℕ) × Among k (keys_in_changes changes) × (bytes_eq k e.0.0 ≡ true) =
         any_found (λ k. bytes_eq k e.0.0) (keys_in_changes changes) (sym (set_keys changes e.0.0) ∙ ap is_some some) in
         among_any test (keys_in_changes changes) k.0 k.1 (ap test ((bytes_eq-Decides k.0 e.0.0).0 k.2) ∙ e.2)
 
-    by_value : (k : List ℕ) → test k ≡ true → (o : Option (Option (List ℕ))) → get (set_from empty changes) k ≡ o → is_some o ≡ true
-        → list_any (λ (e : Setted). test e.0) (entries (set_from empty changes)) ≡ true
+    by_value : (k : List ℕ) → test k ≡ true → (o : Option (Option (List ℕ))) → get (settings_from empty changes) k ≡ o → is_some o ≡ true
+        → list_any (λ (e : Setted). test e.0) (entries (settings_from empty changes)) ≡ true
     by_value k e None h some = absurd cc
     by_value k e (Some v) h some =
-        among_any (λ (e : Setted). test e.0) (entries (set_from empty changes)) (k, v)
-        (entry_found k (entries (set_from empty changes)) v (sym (get-entries (set_from empty changes) k) ∙ h)) e
+        among_any (λ (e : Setted). test e.0) (entries (settings_from empty changes)) (k, v)
+        (entry_found k (entries (settings_from empty changes)) v (sym (get-entries (settings_from empty changes) k) ∙ h)) e
 
-    back : list_any test (keys_in_changes changes) ≡ true → list_any (λ (e : Setted). test e.0) (entries (set_from empty changes)) ≡ true
+    back : list_any test (keys_in_changes changes) ≡ true → list_any (λ (e : Setted). test e.0) (entries (settings_from empty changes)) ≡ true
     back h =
         let k : (k : List ℕ) × Among k (keys_in_changes changes) × (test k ≡ true) = any_found test (keys_in_changes changes) h in
-        by_value k.0 k.2 (get (set_from empty changes) k.0) refl
+        by_value k.0 k.2 (get (settings_from empty changes) k.0) refl
         (set_keys changes k.0 ∙ among_any (λ x. bytes_eq x k.0) (keys_in_changes changes) k.0 k.1 ((bytes_eq-Decides k.0 k.0).1 refl))
 
-pub begins_changed : (settings : List Setting) (changes : List Change) (p : List ℕ) → set_pairs settings ≡ set_by changes
+pub begins_changed : (settings : List Setting) (changes : List Change) (p : List ℕ) → set_pairs settings ≡ settings_of changes
     → begins_one settings p ≡ is_changed (keys_in_changes changes) (at_path p)
 begins_changed settings changes p e =
     sym (any_mapped (λ (s : Setting). let x : Setted = (s.path.items, s.value) in x) (λ (x : Setted). starts_with nat_eq x.0 p) settings)
     ∙ ap (list_any (λ (x : Setted). starts_with nat_eq x.0 p)) e
-    ∙ any_mapped (λ (x : Setted). let y : Setted = (nibbles_of x.0, x.1) in y) (λ (x : Setted). starts_with nat_eq x.0 p) (entries (set_from empty changes))
+    ∙ any_mapped (λ (x : Setted). let y : Setted = (nibbles_of x.0, x.1) in y) (λ (x : Setted). starts_with nat_eq x.0 p) (entries (settings_from empty changes))
     ∙ same_keys changes (λ k. starts_with nat_eq (nibbles_of k) p)

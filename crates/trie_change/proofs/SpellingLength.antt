@@ -10,10 +10,10 @@ use Rattle.trie_codec.specs.Reading.{◌>>=◌, first_bytes, first_length, short
 use Rattle.trie_codec.proofs.Lengths.{length_read}
 use Rattle.trie_model.specs.Nibbles.{packed, paired}
 use Rattle.trie_model.specs.Node.{Node, bitmap, branch_kind, has_child, header, optional_string, spelled, spelling}
-use Rattle.trie_change.specs.Frontier.{IsLimited}
+use Rattle.trie_change.specs.Frontier.{IsLimited, item_path}
 use Rattle.trie_change.specs.declared.frontier.Item.{Item}
 use Rattle.trie_change.specs.declared.frontier.Item.TheVariants as item
-use Rattle.trie_change.specs.inner.Built.{IsShortValue, item_path, value_after}
+use Rattle.trie_change.specs.inner.Built.{IsShortValue, value_after}
 use Rattle.trie_change.specs.inner.Diffs.{most_in_node}
 
 second : (x y : ℕ × List ℕ) → ◌≡◌ {A = Result (ℕ × List ℕ) CodecFault} (Ok x) (Ok y) → x.1 ≡ y.1

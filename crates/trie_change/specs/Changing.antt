@@ -13,20 +13,12 @@ use Rattle.trie_model.specs.Node.{IsPartial}
 use Rattle.trie_model.specs.Nodes.{PathNode}
 use Rattle.trie_model.specs.State.{State}
 use Rattle.trie_root.specs.Suffixes.{IsEntry}
+pub use Rattle.trie_change.specs.Settings.{settings_from, settings_of}
 use Rattle.trie_change.specs.Frontier.{IsLimited}
 use Rattle.trie_change.specs.declared.frontier.Stub.{Stub}
 use Rattle.trie_change.specs.declared.settings.Setting.{Setting}
 use Rattle.trie_change.specs.declared.change_job.ChangeJob.{ChangeJob}
 use Rattle.trie_change.specs.inner.Stages.{IsCreated, IsFedSoFar}
-
--- what each key is set to by the last change that names it, None where that deletes it
-abbrev pub settings_from : FinMap (slice_cmp nat_cmp) (Option (List ℕ)) → List Change → FinMap (slice_cmp nat_cmp) (Option (List ℕ))
-settings_from settings [] = settings
-settings_from settings (c ∷ cs) = settings_from (insert settings c.key c.value) cs
-
--- the same by rising key, in nibbles
-abbrev pub settings_of : List Change → List (List ℕ × Option (List ℕ))
-settings_of changes = map (λ e. (nibbles_of e.0, e.1)) (entries (settings_from empty changes))
 
 -- the hash that is wanted
 abbrev pub change_wanted : ChangeJob → Option (List ℕ)

@@ -15,6 +15,11 @@ use Rattle.trie_change.specs.declared.frontier.Stub.{Stub}
 abbrev pub path_node_at : List Suffix → List ℕ → PathNode
 path_node_at suffixes path = record { path = path; bytes = spelling (node_at suffixes path) }
 
+-- where an item is: where its key ends, or where its node hangs
+abbrev pub item_path : Item → List ℕ
+item_path (item.Entry e) = e.path.items
+item_path (item.Stub s) = s.path.items
+
 -- the suffixes that an item stands for: a key and its value, or all that go on with a stub's path
 abbrev pub suffixes_for : List Suffix → Item → List Suffix
 suffixes_for suffixes (item.Entry e) = (e.path.items, e.value) ∷ []

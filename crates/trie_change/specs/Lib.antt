@@ -1,5 +1,6 @@
 pub mod ChangedKeys
 pub mod Frontier
+pub mod Settings
 pub mod Deltas
 pub mod Changing
 pub mod inner

@@ -5,12 +5,13 @@ ghost use Rattle.trie_model.specs.Nodes.{PathNode};
 ghost use Rattle.trie_model.specs.Trie.{below, child_value, common, node_of_all};
 ghost use Rattle.trie_codec.specs.Parts.{node_with};
 ghost use Rattle.trie_codec.specs.Slices.{bytes_in};
-ghost use Rattle.trie_change.specs.Frontier.{IsLimited};
-ghost use Rattle.trie_change.specs.inner.Built.{FitsNode, IsMade, IsShortValue, ItemBranch, ItemGroup, hash_here, is_made, item_path, made_of_group, node_of_group, nodes_at, nodes_below, rank_after, value_after, values_below};
+ghost use Rattle.trie_change.specs.Frontier.{IsLimited, item_path};
+ghost use Rattle.trie_change.specs.inner.Built.{FitsNode, IsMade, IsShortValue, ItemBranch, ItemGroup, hash_here, is_made, made_of_group, node_of_group, nodes_at, nodes_below, rank_after, value_after, values_below};
 ghost use Rattle.trie_change.specs.inner.Diffs.{AreShort, Comparison, IsComparison, after_nodes, most_in_node};
 
 use crate::diff::Diff;
 use crate::frontier::Item;
+use crate::in_order::path_of;
 use sdb_base::{Bytes, Nibbles, NodeHash, OutOfMemory};
 use std::alloc::Global;
 use trie_codec::{ChildList, Plain, encode, encode_parts};
@@ -193,16 +194,6 @@ fn hash_here(item: &Item, at: usize) -> Option<NodeHash>
                 None
             }
         }
-    }
-}
-
-// Where an item is.
-fn path_of(item: &Item) -> &[u8]
-    ensures { result.now ≡ item_path item.now }
-{
-    match item {
-        Item::Entry(entry) => entry.path.as_slice(),
-        Item::Stub(stub) => stub.path.as_slice(),
     }
 }
 

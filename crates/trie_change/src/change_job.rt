@@ -138,14 +138,14 @@ impl ChangeJob {
         requires wanted { is_some (change_wanted self.old) ≡ true }
         requires limits { KeepsLimits self.old }
         ensures limits { KeepsLimits self.new }
-        ensures changed { (m : State) (changes : List Change) (n : PathNode) (todo : List PathNode) → IsChanging self.old m changes (n ∷ todo)
-            → bytes.now ≡ n.bytes → OnOk result (IsChanging self.new m changes todo) }
+        ensures changed { (m : State) (changes : List Change) (n : PathNode) (todo : List PathNode)
+            → IsChanging self.old m changes (n ∷ todo) → bytes.now ≡ n.bytes → OnOk result (IsChanging self.new m changes todo) }
         ensures bad { OnOk result (is_bad_node (change_depth self.old) bytes.now ≡ false) }
         ensures err { OnErr result (self.new ≡ self.old) }
         ensures fault { IfErr result (λ f. MatchFault f (is_bad_node (change_depth self.old) bytes.now ≡ true)
             (is_bad_node (change_depth self.old) bytes.now ≡ false) (change_wanted self.old)) }
-        ensures sound { (m : State) (changes : List Change) (n : PathNode) (todo : List PathNode) → IsChanging self.old m changes (n ∷ todo)
-            → bytes.now ≡ n.bytes → IfErr result (λ f. f ≡ OutOfMemory) }
+        ensures sound { (m : State) (changes : List Change) (n : PathNode) (todo : List PathNode)
+            → IsChanging self.old m changes (n ∷ todo) → bytes.now ≡ n.bytes → IfErr result (λ f. f ≡ OutOfMemory) }
     {
         let Some(wanted) = &self.wanted else {
             unreachable!()
@@ -182,8 +182,8 @@ impl ChangeJob {
         requires limits { KeepsLimits self.old }
         requires limited { AllByRecursion IsLimited items.items }
         ensures limits { KeepsLimits self.new }
-        ensures taken { (m : State) (changes : List Change) (n : PathNode) (todo : List PathNode) (s : Stub) (node : Node) → IsChanging self.old m changes (n ∷ todo)
-            → self.old.wanted ≡ Some s → fed.path.items ≡ s.path.items → fed.hash ≡ s.hash → fed.bytes ≡ n.bytes
+        ensures taken { (m : State) (changes : List Change) (n : PathNode) (todo : List PathNode) (s : Stub) (node : Node)
+            → IsChanging self.old m changes (n ∷ todo) → self.old.wanted ≡ Some s → fed.path.items ≡ s.path.items → fed.hash ≡ s.hash → fed.bytes ≡ n.bytes
             → node_of_bytes n.bytes ≡ Ok node → all_known items.items ≡ known_in 33 node s.path.items
             → OnOk result (IsChanging self.new m changes todo) }
         ensures err { OnErr result (self.new ≡ self.old) }
@@ -245,7 +245,8 @@ impl ChangeJob {
     pub fn finish(self) -> Result<Delta, OutOfMemory>
         requires wanted { change_wanted self ≡ None }
         requires limits { KeepsLimits self }
-        ensures changed { (m : State) (changes : List Change) → IsChanging self m changes [] → IfOk result (λ d. IsDelta d m (apply m changes)) }
+        ensures changed { (m : State) (changes : List Change) → IsChanging self m changes []
+            → IfOk result (λ d. IsDelta d m (apply m changes)) }
         ensures created { (changes : List Change) → IsCreating self changes
             → IfOk result (λ d. IsDeltaOf d (trie_root (apply no_keys changes)) (stored_nodes (apply no_keys changes)) []) }
         ensures few { IfOk result (λ d. (length d.puts < 2 ^ 32) × (length d.drops < 2 ^ 32)) }

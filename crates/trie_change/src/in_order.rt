@@ -7,15 +7,15 @@ ghost use Rattle.trie_model.specs.State.{State};
 ghost use Rattle.trie_model.specs.Trie.{suffixes_of};
 ghost use Rattle.trie_read.specs.Paths.{Hangs};
 ghost use Rattle.trie_root.specs.Suffixes.{IsEntry};
-ghost use Rattle.trie_change.specs.Frontier.{IsFrontier, IsHanging, IsLimited};
-ghost use Rattle.trie_change.specs.inner.InOrder.{IsOff, IsRising, begins_one, item_goes_on, hangs_between, in_place, path_of_item};
+ghost use Rattle.trie_change.specs.Frontier.{IsFrontier, IsHanging, IsLimited, item_path};
+ghost use Rattle.trie_change.specs.inner.InOrder.{IsOff, IsRising, begins_one, item_goes_on, hangs_between, in_place};
 
 use crate::frontier::{Item, Stub};
 use crate::settings::{Setting, begins_a_key};
 
 /// Where a node hangs or a key ends.
 pub(crate) fn path_of(item: &Item) -> &[u8]
-    ensures { result.now ≡ path_of_item item.now }
+    ensures { result.now ≡ item_path item.now }
 {
     match item {
         Item::Entry(entry) => entry.path.as_slice(),

@@ -8,7 +8,7 @@ use Rattle.sdb_base.specs.declared.node.NodeHash.{NodeHash}
 use Rattle.sdb_blake2.specs.Blake2b.{H}
 use Rattle.trie_model.specs.Nodes.{PathNode, if_any, is_stored, nodes_over}
 use Rattle.trie_model.specs.Trie.{Suffix, below, child_value, every_nibble, levels_of, node_of_all, with_prefix}
-use Rattle.trie_change.specs.Frontier.{IsHanging, IsItem, is_under, path_node_at, suffixes_for}
+use Rattle.trie_change.specs.Frontier.{IsHanging, IsItem, is_under, path_node_at, suffixes_for, item_path}
 use Rattle.trie_change.specs.declared.build.Made.{Made}
 use Rattle.trie_change.specs.declared.build.Made.TheVariants as made
 use Rattle.trie_change.specs.declared.diff.Diff.{Diff}
@@ -17,11 +17,6 @@ use Rattle.trie_change.specs.declared.frontier.Item.TheVariants as item
 use Rattle.trie_change.specs.inner.Diffs.{Comparison, IsComparison, after_nodes, most_in_node}
 
 -- ---- items in their order
-
--- the path of an item's stub, or its key
-abbrev pub item_path : Item → List ℕ
-item_path (item.Entry e) = e.path.items
-item_path (item.Stub s) = s.path.items
 
 -- One path comes before another. Only a key has others below it: a stub stands for all that goes on with its path.
 abbrev pub PathBefore : Bool → List ℕ → List ℕ → Type 0

@@ -8,6 +8,7 @@ use Rattle.trie_change.specs.declared.frontier.Item.{Item}
 use Rattle.trie_change.specs.declared.frontier.Item.TheVariants as item
 use Rattle.trie_change.specs.declared.frontier.Stub.{Stub}
 use Rattle.trie_change.specs.declared.settings.Setting.{Setting}
+use Rattle.trie_change.specs.Frontier.{item_path}
 
 abbrev pub next_item : Option Stub → List Item
 next_item None = []
@@ -16,10 +17,6 @@ next_item (Some s) = item.Stub s ∷ []
 -- the items that were found, the wanted node, and what comes after it, the last first
 abbrev pub in_place : List Item → Option Stub → List Item → List Item
 in_place found wanted later = found ++ (next_item wanted ++ reverse later)
-
-abbrev pub path_of_item : Item → List ℕ
-path_of_item (item.Entry e) = e.path.items
-path_of_item (item.Stub s) = s.path.items
 
 abbrev pub stubs_in : Item → List Stub
 stubs_in (item.Entry e) = []
@@ -55,7 +52,7 @@ IsRising settings = T (is_sorted (slice_cmp nat_cmp) (set_pairs settings))
 -- whether an item's path goes on with some nibbles
 abbrev pub item_goes_on : List ℕ → Option Item → Bool
 item_goes_on nibbles None = false
-item_goes_on nibbles (Some i) = starts_with nat_eq (path_of_item i) nibbles
+item_goes_on nibbles (Some i) = starts_with nat_eq (item_path i) nibbles
 
 abbrev pub hangs_between : Option Item → List ℕ → Option Item → Bool
 hangs_between before [] after = true

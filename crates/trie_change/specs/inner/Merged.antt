@@ -6,7 +6,7 @@ use Rattle.std.specs.declared.cmp.Ordering.TheVariants.{Less, Greater}
 use Rattle.trie_change.specs.declared.frontier.Item.{Item}
 use Rattle.trie_change.specs.declared.frontier.Item.TheVariants as item
 use Rattle.trie_change.specs.declared.settings.Setting.{Setting}
-use Rattle.trie_change.specs.inner.InOrder.{path_of_item}
+use Rattle.trie_change.specs.Frontier.{item_path}
 
 -- an entry where a value is set, nothing where a key is deleted
 abbrev pub set_item : Setting → Option (List ℕ) → List Item
@@ -16,7 +16,7 @@ set_item s (Some value) = item.Entry (record { path = s.path; value = value }) �
 -- the first item, if there is one, is below the key that is set
 abbrev pub IsBelowKey : Setting → List Item → Type 0
 IsBelowKey s [] = Unit {0}
-IsBelowKey s (i ∷ items) = slice_cmp nat_cmp (path_of_item i) s.path.items ≡ Less
+IsBelowKey s (i ∷ items) = slice_cmp nat_cmp (item_path i) s.path.items ≡ Less
 
 -- items and settings, the last first, and what they make: an item above what is left to set stays, one of a key that is set is
 -- left out, and a value that is set comes before the items below it
@@ -24,10 +24,10 @@ pub data IsMerged : List Item → List Setting → List Item → Type 0 where
   nothing_left : IsMerged [] [] []
   no_more_set : (i : Item) (items merged : List Item) → IsMerged items [] merged → IsMerged (i ∷ items) [] (i ∷ merged)
   stays_above : (i : Item) (items : List Item) (s : Setting) (settings : List Setting) (merged : List Item)
-      → slice_cmp nat_cmp (path_of_item i) s.path.items ≡ Greater → IsMerged items (s ∷ settings) merged
+      → slice_cmp nat_cmp (item_path i) s.path.items ≡ Greater → IsMerged items (s ∷ settings) merged
       → IsMerged (i ∷ items) (s ∷ settings) (i ∷ merged)
   is_replaced : (i : Item) (items : List Item) (s : Setting) (settings : List Setting) (merged : List Item)
-      → path_of_item i ≡ s.path.items → IsMerged items (s ∷ settings) merged → IsMerged (i ∷ items) (s ∷ settings) merged
+      → item_path i ≡ s.path.items → IsMerged items (s ∷ settings) merged → IsMerged (i ∷ items) (s ∷ settings) merged
   comes_in : (items : List Item) (s : Setting) (settings : List Setting) (merged : List Item)
       → IsBelowKey s items → IsMerged items settings merged → IsMerged items (s ∷ settings) (set_item s s.value ++ merged)
 

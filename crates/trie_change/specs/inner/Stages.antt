@@ -23,14 +23,7 @@ use Rattle.trie_change.specs.declared.frontier.Item.{Item}
 use Rattle.trie_change.specs.declared.frontier.Item.TheVariants as item
 use Rattle.trie_change.specs.declared.frontier.Stub.{Stub}
 use Rattle.trie_change.specs.declared.settings.Setting.{Setting}
-
--- what changes set, by rising key in nibbles
-abbrev pub set_from : FinMap (slice_cmp nat_cmp) (Option (List ℕ)) → List Change → FinMap (slice_cmp nat_cmp) (Option (List ℕ))
-set_from set [] = set
-set_from set (c ∷ cs) = set_from (insert set c.key c.value) cs
-
-abbrev pub set_by : List Change → List (List ℕ × Option (List ℕ))
-set_by changes = map (λ e. (nibbles_of e.0, e.1)) (entries (set_from empty changes))
+use Rattle.trie_change.specs.Settings.{settings_of}
 
 -- the stored nodes at an item and below it
 abbrev pub stored_under : List Suffix → Item → List PathNode
@@ -81,7 +74,7 @@ pub record HasPlaces (more : ℕ) (j : ChangeJob) : Type 0 where
 -- On the way to the keys that are set: what is found is off the way, and what is wanted is on it.
 pub record IsOnTheWay (j : JobParts) (m : State) (changes : List Change) (todo : List PathNode) : Type 0 where
   pub after : All IsEntry (entries (apply m changes))
-  pub set : set_pairs j.settings ≡ set_by changes
+  pub set : set_pairs j.settings ≡ settings_of changes
   pub held : IsHeld m m changes j.fed (items_in j) todo
   pub off : AllByRecursion (IsOff j.settings) j.found
   pub on : IfSome j.wanted (λ s. begins_one j.settings s.path.items ≡ true)

@@ -7,9 +7,9 @@ use Rattle.sdb_base.specs.declared.node.NodeHash.{NodeHash}
 use Rattle.trie_model.specs.Nodes.{PathNode}
 use Rattle.trie_model.specs.Trie.{below, child_value, common, node_of_all}
 use Rattle.trie_root.proofs.ReadOffNibbles.{from}
-use Rattle.trie_change.specs.Frontier.{IsLimited}
+use Rattle.trie_change.specs.Frontier.{IsLimited, item_path}
 use Rattle.trie_change.specs.declared.frontier.Item.{Item}
-use Rattle.trie_change.specs.inner.Built.{IsShortValue, ItemGroup, hash_here, is_made, item_path, made_of_group, node_of_group, nodes_at, nodes_from}
+use Rattle.trie_change.specs.inner.Built.{IsShortValue, ItemGroup, hash_here, is_made, made_of_group, node_of_group, nodes_at, nodes_from}
 use Rattle.trie_change.specs.inner.Diffs.{Comparison, IsComparison, after_nodes}
 use Rattle.trie_change.proofs.ChildRuns.{Coming, all_come, nodes_at_nibble, none_come, one_comes, run_group}
 use Rattle.trie_change.proofs.ItemsParted.{shared_by}
