@@ -33,7 +33,7 @@ impl Model for PutSet {
 
 impl PutSet {
     /// No puts.
-    pub(crate) fn new(alloc: Global) -> PutSet
+    pub fn new(alloc: Global) -> PutSet
         ensures { result ≡ [] }
     {
         PutSet {
@@ -44,7 +44,7 @@ impl PutSet {
     }
 
     /// The bytes put into a cell.
-    pub(crate) fn get(&self, name: &CellName) -> Option<&[u8]>
+    pub fn get(&self, name: &CellName) -> Option<&[u8]>
         ensures bytes { option_map (λ b. b.now) result ≡ last_put self.now name.now }
         ensures sized { IfSome result (λ b. size_of name.now.file ≡ Some (length b.now)) }
     {
@@ -55,7 +55,7 @@ impl PutSet {
     }
 
     /// Puts a cell. An `Err` changes nothing.
-    pub(crate) fn put(&mut self, name: CellName, bytes: &[u8]) -> Result<(), OutOfMemory>
+    pub fn put(&mut self, name: CellName, bytes: &[u8]) -> Result<(), OutOfMemory>
         requires sized { size_of name.file ≡ Some (length bytes.now) }
         requires index { name.index < 2 ^ 32 }
         ensures ok { OnOk result (self.new ≡ puts_after self.old (record { name = name; bytes = bytes.now })) }
@@ -75,7 +75,7 @@ impl PutSet {
     }
 
     /// The puts, without taking memory.
-    pub(crate) fn into_puts(self) -> Puts
+    pub fn into_puts(self) -> Puts
         ensures puts { result ≡ self }
         ensures once { NoCellTwice result }
         ensures whole { All IsWholeCell result }

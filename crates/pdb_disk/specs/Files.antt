@@ -29,6 +29,11 @@ Image = ℕ → FileBytes
 abbrev pub settled : FileBytes → FileState
 settled c = record { read = c; kept = c; since = [] }
 
+-- a file was synced after its last write and cut
+pub record IsSynced (s : FileState) : Type 0 where
+  pub kept : s.kept ≡ s.read
+  pub since : s.since ≡ []
+
 -- the step doesn't cover this place: it lies beside the written bytes, and a cut covers all places
 abbrev pub Spares : Step → ℕ → Type 0
 Spares (Write at bytes) i = (i < at) ⊎ (at + length bytes ≤ i)

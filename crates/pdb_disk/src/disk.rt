@@ -1,4 +1,4 @@
-ghost use Rattle.std.specs.Prelude.{◌≡◌, ◌≤◌, ◌<◌, ◌+◌, ◌-◌, ◌^◌, ℕ, length, is_err, IfErr, OnOk, OnErr};
+ghost use Rattle.std.specs.Prelude.{◌≡◌, ◌≤◌, ◌<◌, ◌+◌, ◌-◌, ◌^◌, ℕ, length, is_err, IfErr, IsTrue, OnOk, OnErr};
 ghost use Rattle.sdb_io.specs.Faults.{CountsFault};
 ghost use Rattle.pdb_disk.specs.Files.{Files, Elapses, Begins, MayBegin, Settles, StandsAt, IsImage, done, reads_of};
 ghost use Rattle.pdb_disk.specs.Files.{Step as step};
@@ -20,11 +20,11 @@ pub enum DiskFault {
 
 /// A disk of files that are numbered from 0. A file has no end: past the last byte written it reads as zeros.
 pub trait Disk {
-    ghost use Rattle.std.specs.Prelude.{ℕ};
+    ghost use Rattle.std.specs.Prelude.{Bool, ℕ};
     ghost use Rattle.pdb_disk.specs.Files.{Files};
 
     // it tells its content; where it does, it goes on to
-    ghost tells: { Self → Type 0 };
+    ghost tells: { Self → Bool };
 
     // how many writes, cuts and syncs there were; at 2^64 - 1 the clock stops
     ghost clock: { Self → ℕ };
@@ -41,12 +41,13 @@ pub trait Disk {
     /// Fills `into` with the bytes of a file from `at` on. After a fault `into` is unspecified.
     fn read_at(&mut self, file: u16, at: u64, into: &mut [u8]) -> Result<(), DiskFault>
         requires { at + length into.old ≤ 2 ^ 63 }
-        ensures bytes { OnOk result (tells self.old → StandsAt (past self.old (clock self.old) file).read at into.new) }
+        ensures bytes { OnOk result (IsTrue (tells self.old) → StandsAt (past self.old (clock self.old) file).read at into.new) }
         ensures time { clock self.new ≡ clock self.old }
         ensures unchanged { past self.new ≡ past self.old }
-        ensures told { tells self.old → tells self.new }
+        ensures told { IsTrue (tells self.old) → IsTrue (tells self.new) }
         ensures fault { IfErr result (λ e. e ≡ DiskFault.Read) }
         ensures counted { CountsFault (is_err result) (fault_count self.old) (fault_count self.new) }
+        ensures faults { fault_count self.old ≤ fault_count self.new }
         ensures reads { read_count self.old ≤ read_count self.new }
         ensures one_read { read_count self.new ≤ read_count self.old + 1 };
 
@@ -55,13 +56,13 @@ pub trait Disk {
         requires { at + length bytes.now ≤ 2 ^ 63 }
         ensures time { Elapses (clock self.old) (clock self.new) (past self.old) (past self.new) }
         ensures last { OnOk result (clock self.old < 2 ^ 64 - 1) }
-        ensures begun { OnOk result (tells self.old
+        ensures begun { OnOk result (IsTrue (tells self.old)
             → Begins file (step.Write at bytes.now) (past self.old (clock self.old)) (past self.new (clock self.new))) }
-        ensures written { OnOk result (tells self.old → (past self.new (clock self.new) file).read
+        ensures written { OnOk result (IsTrue (tells self.old) → (past self.new (clock self.new) file).read
             ≡ done (past self.old (clock self.old) file).read (step.Write at bytes.now)) }
-        ensures failed { OnErr result (tells self.old
+        ensures failed { OnErr result (IsTrue (tells self.old)
             → MayBegin file (step.Write at bytes.now) (past self.old (clock self.old)) (past self.new (clock self.new))) }
-        ensures told { tells self.old → tells self.new }
+        ensures told { IsTrue (tells self.old) → IsTrue (tells self.new) }
         ensures fault { IfErr result (λ e. e ≡ DiskFault.Write) }
         ensures counted { CountsFault (is_err result) (fault_count self.old) (fault_count self.new) }
         ensures reads { read_count self.new ≡ read_count self.old };
@@ -70,13 +71,13 @@ pub trait Disk {
     fn cut(&mut self, file: u16) -> Result<(), DiskFault>
         ensures time { Elapses (clock self.old) (clock self.new) (past self.old) (past self.new) }
         ensures last { OnOk result (clock self.old < 2 ^ 64 - 1) }
-        ensures begun { OnOk result (tells self.old
+        ensures begun { OnOk result (IsTrue (tells self.old)
             → Begins file step.Cut (past self.old (clock self.old)) (past self.new (clock self.new))) }
-        ensures written { OnOk result (tells self.old → (past self.new (clock self.new) file).read
+        ensures written { OnOk result (IsTrue (tells self.old) → (past self.new (clock self.new) file).read
             ≡ done (past self.old (clock self.old) file).read step.Cut) }
-        ensures failed { OnErr result (tells self.old
+        ensures failed { OnErr result (IsTrue (tells self.old)
             → MayBegin file step.Cut (past self.old (clock self.old)) (past self.new (clock self.new))) }
-        ensures told { tells self.old → tells self.new }
+        ensures told { IsTrue (tells self.old) → IsTrue (tells self.new) }
         ensures fault { IfErr result (λ e. e ≡ DiskFault.Cut) }
         ensures counted { CountsFault (is_err result) (fault_count self.old) (fault_count self.new) }
         ensures reads { read_count self.new ≡ read_count self.old };
@@ -85,11 +86,11 @@ pub trait Disk {
     fn sync(&mut self, file: u16) -> Result<(), DiskFault>
         ensures time { Elapses (clock self.old) (clock self.new) (past self.old) (past self.new) }
         ensures last { OnOk result (clock self.old < 2 ^ 64 - 1) }
-        ensures synced { OnOk result (tells self.old
+        ensures synced { OnOk result (IsTrue (tells self.old)
             → Settles file (past self.old (clock self.old)) (past self.new (clock self.new))) }
-        ensures failed { OnErr result (tells self.old
+        ensures failed { OnErr result (IsTrue (tells self.old)
             → past self.new (clock self.new) ≡ past self.old (clock self.old)) }
-        ensures told { tells self.old → tells self.new }
+        ensures told { IsTrue (tells self.old) → IsTrue (tells self.new) }
         ensures fault { IfErr result (λ e. e ≡ DiskFault.Sync) }
         ensures counted { CountsFault (is_err result) (fault_count self.old) (fault_count self.new) }
         ensures reads { read_count self.new ≡ read_count self.old };
@@ -108,5 +109,5 @@ pub trait Disk {
         ensures { result ≡ fault_count self.now };
 
     // At each moment what is read is itself what a crash may leave.
-    ghost read_is_image: { (d : Self) (t : ℕ) → tells d → t ≤ clock d → IsImage (past d t) (reads_of (past d t)) };
+    ghost read_is_image: { (d : Self) (t : ℕ) → IsTrue (tells d) → t ≤ clock d → IsImage (past d t) (reads_of (past d t)) };
 }

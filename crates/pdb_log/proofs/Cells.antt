@@ -16,7 +16,7 @@ use Rattle.pdb_log.proofs.Members.{to_in}
 use Rattle.pdb_log.proofs.Rows.{row_moved}
 use Rattle.pdb_log.proofs.Beside.{Beside, laid_same}
 
-bytes_same : (c d : FileBytes) (at n : ℕ) → ((k : ℕ) → at ≤ k → k < at + n → c k ≡ d k) → bytes_from c at n ≡ bytes_from d at n
+pub bytes_same : (c d : FileBytes) (at n : ℕ) → ((k : ℕ) → at ≤ k → k < at + n → c k ≡ d k) → bytes_from c at n ≡ bytes_from d at n
 bytes_same c d at zero same = refl
 bytes_same c d at (suc n) same =
     ap₂ (λ (b : ℕ) (bs : List ℕ). b ∷ bs) (same at (omega arith) (omega arith)) (bytes_same c d (at + 1) n (λ k low high. same k (omega (arith, low)) (omega (arith, high))))
@@ -29,7 +29,7 @@ times_more a (suc b) n l = ⊎_elim
     (cases_lt a b)
 
 -- two cells of a file lie apart
-apart : (i k n at : ℕ) → i ≢ k → i * n ≤ at → at < i * n + n → (at < k * n) ⊎ (k * n + n ≤ at)
+pub apart : (i k n at : ℕ) → i ≢ k → i * n ≤ at → at < i * n + n → (at < k * n) ⊎ (k * n + n ≤ at)
 apart i k n at ne low high = ⊎_elim
     (λ less. inl (let m = times_more i k n less in omega (arith, m, high)))
     (λ ge. let more : k < i = omega (arith, ge, ne) in inr (let m = times_more k i n more in omega (arith, m, low)))

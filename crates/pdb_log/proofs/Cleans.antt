@@ -1,6 +1,6 @@
 -- What the write of a gate makes of a log, and of its safety at each moment.
 use Rattle.std.proofs.Common.{◌≡◌, ◌≢◌, ⊎_elim, ℕ, ◌+◌, ◌≤◌, List, length, sym, ◌∙◌, ap, subst, arith, length-append}
-use Rattle.std.specs.Prelude.{slice_index}
+use Rattle.std.specs.Prelude.{Bool, IsTrue, slice_index}
 use Rattle.pdb_disk.specs.Files.{FileBytes, FileState, Files, Begins, MayBegin, Settles, Elapses, done}
 use Rattle.pdb_disk.specs.Files.{Step as step}
 use Rattle.pdb_disk.specs.Moments.{Moments}
@@ -24,7 +24,7 @@ use Rattle.pdb_log.proofs.Rows.{same_rows}
 not_zero : (j : ℕ) → 9 ≤ j → j ≢ gate_file
 not_zero j high e = omega (arith, high, e)
 
-module _ {D : Type 0} (tells : D → Type 0) (clock : D → ℕ) (past : D → ℕ → Files) (log : Log D) (g : GateSlot) (dropped flushed : List Record) (l : Ledger) (rows : List Row) (f : ℕ)
+module _ {D : Type 0} (tells : D → Bool) (clock : D → ℕ) (past : D → ℕ → Files) (log : Log D) (g : GateSlot) (dropped flushed : List Record) (l : Ledger) (rows : List Row) (f : ℕ)
     (fits : Fits g) (is : IsLog tells clock past log l rows f) (next : IsNextGate rows f (past log.disk (clock log.disk)) l g dropped flushed) where
   abbrev now_of : D → Files
   now_of d = past d (clock d)
@@ -44,13 +44,13 @@ module _ {D : Type 0} (tells : D → Type 0) (clock : D → ℕ) (past : D → �
       (either_in (now_of log.disk gate_file) (now_of mid gate_file) l.gate g is.gate fits next.sequence begun.kept begun.since)
 
   pub gate_write_moments : (mid : D) → Elapses (clock log.disk) (clock mid) (past log.disk) (past mid)
-      → (tells log.disk → MayBegin gate_file (step.Write (place_of g) (gate_bytes g)) (past log.disk (clock log.disk)) (past mid (clock mid)))
+      → (IsTrue (tells log.disk) → MayBegin gate_file (step.Write (place_of g) (gate_bytes g)) (past log.disk (clock log.disk)) (past mid (clock mid)))
       → Moments (clock log.disk) (clock mid) (past log.disk) (past mid) (Safe rows f)
   gate_write_moments mid time begins = one_call (clock log.disk) (clock mid) (past log.disk) (past mid) (Safe rows f) time (safe_now tells clock past log l rows f is)
       (⊎_elim (gate_mid mid) (λ same. subst (Safe rows f) (sym same) (safe_now tells clock past log l rows f is)) (begins is.told))
 
   pub gate_log : (mid : D) (new : Log D) → new.gate ≡ g → new.file ≡ log.file → new.number ≡ log.number → new.ends ≡ log.ends → new.synced ≡ log.synced → new.last ≡ log.last
-      → tells new.disk → Begins gate_file (step.Write (place_of g) (gate_bytes g)) (past log.disk (clock log.disk)) (past mid (clock mid))
+      → IsTrue (tells new.disk) → Begins gate_file (step.Write (place_of g) (gate_bytes g)) (past log.disk (clock log.disk)) (past mid (clock mid))
       → (past mid (clock mid) gate_file).read ≡ done (past log.disk (clock log.disk) gate_file).read (step.Write (place_of g) (gate_bytes g))
       → Settles gate_file (past mid (clock mid)) (past new.disk (clock new.disk))
       → IsLog tells clock past new (passed l g flushed) rows f

@@ -23,7 +23,7 @@ no_bytes : (rs : List Record) → length rs ≡ 0 → length (spelled_records rs
 no_bytes [] e = refl
 no_bytes (r ∷ rs) e = absurd (omega (arith, e))
 
-module _ {D : Type 0} (tells : D → Type 0) (clock : D → ℕ) (past : D → ℕ → Files) (log : Log D) (file : ℕ) (l : Ledger) (rows : List Row) (f : ℕ) (m : IsLogFile file) (is : IsLog tells clock past log l rows f) where
+module _ {D : Type 0} (tells : D → Bool) (clock : D → ℕ) (past : D → ℕ → Files) (log : Log D) (file : ℕ) (l : Ledger) (rows : List Row) (f : ℕ) (m : IsLogFile file) (is : IsLog tells clock past log l rows f) where
   -- a file whose last record the gate has passed
   pub file_passed : slice_index log.last file ≤ l.gate.number → IsPassed (l.segments file) l.gate.number
   file_passed low = record { synced = none_if_empty (l.segments file).pending pending; each = each }

@@ -1,6 +1,6 @@
 -- What the cut of a log file makes of a log, and of its safety at each moment.
 use Rattle.std.proofs.Common.{◌≡◌, ◌≢◌, inl, ⊎_elim, ℕ, ◌+◌, ◌≤◌, List, [], length, refl, sym, ◌∙◌, ap, subst, arith}
-use Rattle.std.specs.Prelude.{Contains, slice_index}
+use Rattle.std.specs.Prelude.{Bool, IsTrue, Contains, slice_index}
 use Rattle.pdb_disk.specs.Files.{FileState, Files, Begins, MayBegin, Settles, Elapses, done}
 use Rattle.pdb_disk.specs.Files.{Step as step}
 use Rattle.pdb_disk.specs.Moments.{Moments}
@@ -18,7 +18,7 @@ use Rattle.pdb_log.proofs.Logs.{SetTo, kept_within, safe_now}
 use Rattle.pdb_log.proofs.Members.{in_none}
 use Rattle.pdb_log.proofs.Rows.{same_rows}
 
-module _ {D : Type 0} (tells : D → Type 0) (clock : D → ℕ) (past : D → ℕ → Files) (log : Log D) (file : ℕ) (l : Ledger) (rows : List Row) (f : ℕ) (m : IsLogFile file) (is : IsLog tells clock past log l rows f) (pass : IsPassed (l.segments file) l.gate.number) where
+module _ {D : Type 0} (tells : D → Bool) (clock : D → ℕ) (past : D → ℕ → Files) (log : Log D) (file : ℕ) (l : Ledger) (rows : List Row) (f : ℕ) (m : IsLogFile file) (is : IsLog tells clock past log l rows f) (pass : IsPassed (l.segments file) l.gate.number) where
   abbrev now_of : D → Files
   now_of d = past d (clock d)
 
@@ -38,14 +38,14 @@ module _ {D : Type 0} (tells : D → Type 0) (clock : D → ℕ) (past : D → �
       (same_rows rows f (now_of log.disk) (now_of mid) (emptied l file (log.number + 1)) (λ j high. begun.others j (not_cells file j m high)) is.are)
 
   pub cut_moments : (mid : D) → Elapses (clock log.disk) (clock mid) (past log.disk) (past mid)
-      → (tells log.disk → MayBegin file step.Cut (past log.disk (clock log.disk)) (past mid (clock mid)))
+      → (IsTrue (tells log.disk) → MayBegin file step.Cut (past log.disk (clock log.disk)) (past mid (clock mid)))
       → Moments (clock log.disk) (clock mid) (past log.disk) (past mid) (Safe rows f)
   cut_moments mid time begins = one_call (clock log.disk) (clock mid) (past log.disk) (past mid) (Safe rows f) time (safe_now tells clock past log l rows f is)
       (⊎_elim (cut_mid mid) (λ same. subst (Safe rows f) (sym same) (safe_now tells clock past log l rows f is)) (begins is.told))
 
   pub cut_log : (mid : D) (new : Log D) → new.gate ≡ log.gate → new.file ≡ log.file → new.number ≡ log.number
       → SetTo log.ends new.ends file 0 → SetTo log.synced new.synced file 0 → SetTo log.last new.last file log.number
-      → tells new.disk → Begins file step.Cut (past log.disk (clock log.disk)) (past mid (clock mid))
+      → IsTrue (tells new.disk) → Begins file step.Cut (past log.disk (clock log.disk)) (past mid (clock mid))
       → (past mid (clock mid) file).read ≡ done (past log.disk (clock log.disk) file).read step.Cut
       → Settles file (past mid (clock mid)) (past new.disk (clock new.disk))
       → IsLog tells clock past new (emptied l file (log.number + 1)) rows f

@@ -33,7 +33,7 @@ pub record Fits (g : GateSlot) : Type 0 where
   pub number : g.number < 2 ^ 64
   pub commits : g.commits < 2 ^ 64
 
-done_stands : (c : FileBytes) (at : ℕ) (bs : List ℕ) → StandsAt (done c (step.Write at bs)) at bs
+pub done_stands : (c : FileBytes) (at : ℕ) (bs : List ℕ) → StandsAt (done c (step.Write at bs)) at bs
 done_stands c at bs i l =
     let e : at + i - at ≡ i = omega arith in
     sym (inside i l ∙ ap (λ n. get_or bs n 0) e)
@@ -49,13 +49,13 @@ same_bytes g h fits too e =
     let k : g.commits ≡ h.commits = same_number _ _ fits.commits too.commits (ap (λ b. slice_range b 24 (24 + 8)) e) in
     λ i. record { sequence = s i; number = n i; commits = k i }
 
-gate_fits : (c : FileBytes) (g : GateSlot) → HasGate c g → Fits g
+pub gate_fits : (c : FileBytes) (g : GateSlot) → HasGate c g → Fits g
 gate_fits c g has = record { sequence = has.sequence; number = has.number; commits = has.commits }
 
-has_gate : (c : FileBytes) (g : GateSlot) → Fits g → StandsAt c (place_of g) (gate_bytes g) → HasGate c g
+pub has_gate : (c : FileBytes) (g : GateSlot) → Fits g → StandsAt c (place_of g) (gate_bytes g) → HasGate c g
 has_gate c g fits there = record { there = there; sequence = fits.sequence; number = fits.number; commits = fits.commits }
 
-gate_same : (c : FileBytes) (p : ℕ) (g h : GateSlot) → Fits g → Fits h → StandsAt c p (gate_bytes g) → StandsAt c p (gate_bytes h) → g ≡ h
+pub gate_same : (c : FileBytes) (p : ℕ) (g h : GateSlot) → Fits g → Fits h → StandsAt c p (gate_bytes g) → StandsAt c p (gate_bytes h) → g ≡ h
 gate_same c p g h fits too a b = same_bytes g h fits too (stands_same c p (gate_bytes g) (gate_bytes h) a b (gate_len g ∙ sym (gate_len h)))
 
 -- two slots are the same or lie apart

@@ -1,6 +1,6 @@
 -- What the device calls of an append and a flush make of a log, and of its safety at each moment.
 use Rattle.std.proofs.Common.{◌≡◌, ◌≢◌, ⊎_elim, ℕ, ◌+◌, ◌≤◌, ◌<◌, ◌^◌, List, [], ◌∷◌, ◌++◌, length, All, sym, ◌∙◌, ap, subst, arith, length-append}
-use Rattle.std.specs.Prelude.{Contains, Some, set, slice_get, slice_index}
+use Rattle.std.specs.Prelude.{Bool, IsTrue, Contains, Some, set, slice_get, slice_index}
 use Rattle.std.proofs.lemmas.List.{get_or-set_same, get_or-set_other}
 use Rattle.std.proofs.lemmas.List.Elements.{Contains-append_left, Contains-append_right, Contains-append_cases}
 use Rattle.pdb_cells.specs.Puts.{IsWholeCell, NoCellTwice}
@@ -51,7 +51,7 @@ good_record number commits puts first narrow few short whole once = record {
 kept_short : (g : Segment) → length (spelled_records g.kept) ≤ length (spelled_records (records_of g))
 kept_short g = let p = ap length (spelled-append g.kept g.pending) in let q = length-append (spelled_records g.kept) (spelled_records g.pending) in omega (arith, p, q)
 
-module _ {D : Type 0} (tells : D → Type 0) (clock : D → ℕ) (past : D → ℕ → Files) where
+module _ {D : Type 0} (tells : D → Bool) (clock : D → ℕ) (past : D → ℕ → Files) where
   abbrev now_of : D → Files
   now_of d = past d (clock d)
 
@@ -97,7 +97,7 @@ module _ {D : Type 0} (tells : D → Type 0) (clock : D → ℕ) (past : D → �
 
     -- answered or failed
     pub write_moments : Elapses (clock log.disk) (clock disk) (past log.disk) (past disk)
-        → (tells log.disk → MayBegin file (step.Write (end_of_log log) (record_bytes r)) (past log.disk (clock log.disk)) (past disk (clock disk)))
+        → (IsTrue (tells log.disk) → MayBegin file (step.Write (end_of_log log) (record_bytes r)) (past log.disk (clock log.disk)) (past disk (clock disk)))
         → Moments (clock log.disk) (clock disk) (past log.disk) (past disk) (Safe (rows ++ row_after row r ∷ []) f)
     write_moments time begins = one_call (clock log.disk) (clock disk) (past log.disk) (past disk) (Safe next_rows f) time safe_before
         (⊎_elim
@@ -109,11 +109,11 @@ module _ {D : Type 0} (tells : D → Type 0) (clock : D → ℕ) (past : D → �
     pub write_log : (new : Log D) → new.disk ≡ disk → new.gate ≡ log.gate → new.file ≡ log.file → new.number ≡ log.number + 1 → new.synced ≡ log.synced
         → SetTo log.ends new.ends log.file.number (end_of_log log + length (record_bytes r)) → SetTo log.last new.last log.file.number (log.number + 1)
         → end_of_log log + length (record_bytes r) ≤ most_in_log
-        → tells disk → Begins log.file.number (step.Write (end_of_log log) (record_bytes r)) (past log.disk (clock log.disk)) (past disk (clock disk))
+        → IsTrue (tells disk) → Begins log.file.number (step.Write (end_of_log log) (record_bytes r)) (past log.disk (clock log.disk)) (past disk (clock disk))
         → (past disk (clock disk) log.file.number).read ≡ done (past log.disk (clock log.disk) log.file.number).read (step.Write (end_of_log log) (record_bytes r))
         → IsLog tells clock past new (appended l log.file.number r) (rows ++ row_after row r ∷ []) f
     write_log new on gate ring count synced ends lasts low told begun written = record {
-      told = subst tells (sym on) told;
+      told = subst (λ d. IsTrue (tells d)) (sym on) told;
       stands = moved (λ fs. StandsInFiles fs (appended l file r)) (stands_after begun);
       gate = moved (λ fs. IsKeptGate (fs gate_file) l.gate) (gate_after begun);
       gate_read = moved (λ fs. (fs gate_file).read ≡ (fs gate_file).kept) (let same = begun.others gate_file (not_gate file m) in

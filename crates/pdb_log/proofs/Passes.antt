@@ -1,6 +1,6 @@
 -- What the calls for cells make of a log, and of its safety at each moment.
 use Rattle.std.proofs.Common.{◌≡◌, ⊎_elim, ℕ, ◌+◌, ◌*◌, ◌≤◌, ◌<◌, List, ◌++◌, length, sym, ◌∙◌, ap, subst, arith, inl, inr}
-use Rattle.std.specs.Prelude.{Contains, Some, slice_index}
+use Rattle.std.specs.Prelude.{Bool, IsTrue, Contains, Some, slice_index}
 use Rattle.std.proofs.lemmas.List.Elements.{All-contains, Contains-append_left}
 use Rattle.pdb_cells.specs.Puts.{IsWholeCell}
 use Rattle.pdb_cells.specs.Sizes.{size_of}
@@ -22,7 +22,7 @@ use Rattle.pdb_log.proofs.Logs.{begun_as, safe_now}
 use Rattle.pdb_log.proofs.Members.{member_is}
 
 -- a put of a record of the log is of a whole cell
-pub put_sized : {D : Type 0} (tells : D → Type 0) (clock : D → ℕ) (past : D → ℕ → Files) (log : Log D) (l : Ledger) (rows : List Row) (f : ℕ) (r : Record) (p : Put) → IsLog tells clock past log l rows f → Contains l.flushed r → Contains r.puts p → size_of p.name.file ≡ Some (length p.bytes)
+pub put_sized : {D : Type 0} (tells : D → Bool) (clock : D → ℕ) (past : D → ℕ → Files) (log : Log D) (l : Ledger) (rows : List Row) (f : ℕ) (r : Record) (p : Put) → IsLog tells clock past log l rows f → Contains l.flushed r → Contains r.puts p → size_of p.name.file ≡ Some (length p.bytes)
 put_sized tells clock past log l rows f r p is flushed has =
     let good = member_is (l.gate.number + 1) (l.flushed ++ l.rest) r is.stands.numbers (Contains-append_left l.flushed l.rest r flushed) in
     let whole : IsWholeCell p = All-contains IsWholeCell r.puts p good.whole has in
@@ -35,14 +35,14 @@ cell_begun p file at bytes old new here place same begun =
     subst (λ n. Begins n (step.Write (p.name.index * length p.bytes) p.bytes) old new) (sym here)
     (subst (λ n. Begins file (step.Write n p.bytes) old new) (sym place) (begun_as file at bytes p.bytes old new (sym same) begun))
 
-module _ {D : Type 0} (tells : D → Type 0) (clock : D → ℕ) (past : D → ℕ → Files) where
+module _ {D : Type 0} (tells : D → Bool) (clock : D → ℕ) (past : D → ℕ → Files) where
   abbrev now_of : D → Files
   now_of d = past d (clock d)
 
   -- the same log over files of which only those from 9 on have changed
   pub cells_log : (log new : Log D) (l : Ledger) (rows : List Row) (f : ℕ) → IsLog tells clock past log l rows f
       → new.gate ≡ log.gate → new.file ≡ log.file → new.number ≡ log.number → new.ends ≡ log.ends → new.synced ≡ log.synced → new.last ≡ log.last
-      → tells new.disk → ((j : ℕ) → j < 9 → past new.disk (clock new.disk) j ≡ past log.disk (clock log.disk) j) → AreRows rows f (past new.disk (clock new.disk)) l → IsLog tells clock past new l rows f
+      → IsTrue (tells new.disk) → ((j : ℕ) → j < 9 → past new.disk (clock new.disk) j ≡ past log.disk (clock log.disk) j) → AreRows rows f (past new.disk (clock new.disk)) l → IsLog tells clock past new l rows f
   cells_log log new l rows f is gate ring number ends synced lasts told same are = record {
     told = told;
     stands = same_stands (now_of log.disk) (now_of new.disk) l (λ j m. same j (let p = m.1 in omega (arith, p))) is.stands;
@@ -64,7 +64,7 @@ module _ {D : Type 0} (tells : D → Type 0) (clock : D → ℕ) (past : D → �
 
   -- a write of a put's cell, answered or failed
   pub cell_log : (log new : Log D) (l : Ledger) (rows : List Row) (f : ℕ) (r : Record) (p : Put) → IsLog tells clock past log l rows f → Contains l.flushed r → Contains r.puts p → 9 ≤ p.name.file
-      → new.gate ≡ log.gate → new.file ≡ log.file → new.number ≡ log.number → new.ends ≡ log.ends → new.synced ≡ log.synced → new.last ≡ log.last → tells new.disk
+      → new.gate ≡ log.gate → new.file ≡ log.file → new.number ≡ log.number → new.ends ≡ log.ends → new.synced ≡ log.synced → new.last ≡ log.last → IsTrue (tells new.disk)
       → MayBegin p.name.file (step.Write (p.name.index * length p.bytes) p.bytes) (past log.disk (clock log.disk)) (past new.disk (clock new.disk)) → IsLog tells clock past new l rows f
   cell_log log new l rows f r p is flushed has high gate ring number ends synced lasts told may = ⊎_elim
       (λ begun. cells_log log new l rows f is gate ring number ends synced lasts told
@@ -76,7 +76,7 @@ module _ {D : Type 0} (tells : D → Type 0) (clock : D → ℕ) (past : D → �
 
   -- a sync of a file of cells
   pub cells_synced_log : (log new : Log D) (l : Ledger) (rows : List Row) (f file : ℕ) → IsLog tells clock past log l rows f → 9 ≤ file
-      → new.gate ≡ log.gate → new.file ≡ log.file → new.number ≡ log.number → new.ends ≡ log.ends → new.synced ≡ log.synced → new.last ≡ log.last → tells new.disk
+      → new.gate ≡ log.gate → new.file ≡ log.file → new.number ≡ log.number → new.ends ≡ log.ends → new.synced ≡ log.synced → new.last ≡ log.last → IsTrue (tells new.disk)
       → IsImage (past log.disk (clock log.disk)) (reads_of (past log.disk (clock log.disk))) → Settles file (past log.disk (clock log.disk)) (past new.disk (clock new.disk)) → IsLog tells clock past new l rows f
   cells_synced_log log new l rows f file is high gate ring number ends synced lasts told reads settles =
       cells_log log new l rows f is gate ring number ends synced lasts told
@@ -86,20 +86,20 @@ module _ {D : Type 0} (tells : D → Type 0) (clock : D → ℕ) (past : D → �
   -- the same files
   pub same_log : (log new : Log D) (l : Ledger) (rows : List Row) (f : ℕ) → IsLog tells clock past log l rows f
       → new.gate ≡ log.gate → new.file ≡ log.file → new.number ≡ log.number → new.ends ≡ log.ends → new.synced ≡ log.synced → new.last ≡ log.last
-      → tells new.disk → past new.disk (clock new.disk) ≡ past log.disk (clock log.disk) → IsLog tells clock past new l rows f
+      → IsTrue (tells new.disk) → past new.disk (clock new.disk) ≡ past log.disk (clock log.disk) → IsLog tells clock past new l rows f
   same_log log new l rows f is gate ring number ends synced lasts told same =
       cells_log log new l rows f is gate ring number ends synced lasts told (λ j low. ap (λ (fs : Files). fs j) same) (subst (λ fs. AreRows rows f fs l) (sym same) is.are)
 
   -- after a read
   pub read_log : (log new : Log D) (l : Ledger) (rows : List Row) (f : ℕ) → IsLog tells clock past log l rows f
       → new.gate ≡ log.gate → new.file ≡ log.file → new.number ≡ log.number → new.ends ≡ log.ends → new.synced ≡ log.synced → new.last ≡ log.last
-      → tells new.disk → clock new.disk ≡ clock log.disk → past new.disk ≡ past log.disk → IsLog tells clock past new l rows f
+      → IsTrue (tells new.disk) → clock new.disk ≡ clock log.disk → past new.disk ≡ past log.disk → IsLog tells clock past new l rows f
   read_log log new l rows f is gate ring number ends synced lasts told time unchanged =
       same_log log new l rows f is gate ring number ends synced lasts told (ap (past new.disk) time ∙ ap (λ (h : ℕ → Files). h (clock log.disk)) unchanged)
 
   -- a write of bytes that are a put's cell
   pub put_log : (log new : Log D) (l : Ledger) (rows : List Row) (f : ℕ) (r : Record) (p : Put) (file at : ℕ) (bytes : List ℕ) → IsLog tells clock past log l rows f → Contains l.flushed r → Contains r.puts p → 9 ≤ file → IsCellAt p file at bytes
-      → new.gate ≡ log.gate → new.file ≡ log.file → new.number ≡ log.number → new.ends ≡ log.ends → new.synced ≡ log.synced → new.last ≡ log.last → tells new.disk
+      → new.gate ≡ log.gate → new.file ≡ log.file → new.number ≡ log.number → new.ends ≡ log.ends → new.synced ≡ log.synced → new.last ≡ log.last → IsTrue (tells new.disk)
       → MayBegin file (step.Write at bytes) (past log.disk (clock log.disk)) (past new.disk (clock new.disk)) → IsLog tells clock past new l rows f
   put_log log new l rows f r p file at bytes is flushed has high cell gate ring number ends synced lasts told may =
       cell_log log new l rows f r p is flushed has (let e = cell.here in omega (arith, e, high)) gate ring number ends synced lasts told

@@ -1,6 +1,6 @@
 -- What the syncs of a flush make of a log, and of its safety at each moment.
 use Rattle.std.proofs.Common.{◌≡◌, ◌⊎◌, inl, inr, ⊎_elim, ℕ, ◌+◌, ◌≤◌, List, [], ◌∷◌, ◌++◌, length, refl, sym, ◌∙◌, ap, subst, arith, length-append}
-use Rattle.std.specs.Prelude.{Contains, slice_index}
+use Rattle.std.specs.Prelude.{Bool, IsTrue, Contains, slice_index}
 use Rattle.std.proofs.lemmas.Bool.{cases_eq}
 use Rattle.std.proofs.lemmas.List.{append-nil}
 use Rattle.pdb_disk.specs.Files.{FileState, Files, Settles, Elapses}
@@ -57,7 +57,7 @@ all_synced l j m = ⊎_elim
     is_one : (j ≡ 4 → ⊥) → (j ≡ 3 → ⊥) → (j ≡ 2 → ⊥) → j ≡ 1
     is_one n4 n3 n2 = let p = m.0 in let q = m.1 in omega (arith, p, q, n4, n3, n2)
 
-module _ {D : Type 0} (tells : D → Type 0) (clock : D → ℕ) (past : D → ℕ → Files) where
+module _ {D : Type 0} (tells : D → Bool) (clock : D → ℕ) (past : D → ℕ → Files) where
   abbrev now_of : D → Files
   now_of d = past d (clock d)
 
@@ -76,7 +76,7 @@ module _ {D : Type 0} (tells : D → Type 0) (clock : D → ℕ) (past : D → �
     -- a sync that was answered
     pub sync_log : new.gate ≡ log.gate → new.file ≡ log.file → new.number ≡ log.number → new.ends ≡ log.ends → new.last ≡ log.last
         → SetTo log.synced new.synced file (slice_index log.ends file)
-        → tells new.disk → Settles file (past log.disk (clock log.disk)) (past new.disk (clock new.disk)) → IsLog tells clock past new (file_synced l file) rows f
+        → IsTrue (tells new.disk) → Settles file (past log.disk (clock log.disk)) (past new.disk (clock new.disk)) → IsLog tells clock past new (file_synced l file) rows f
     sync_log gate ring number ends lasts synced told settles = record {
       told = told;
       stands = sync_stands (now_of log.disk) (now_of new.disk) l file is.stands m (is.read file m) (is.segments file m) settles;

@@ -1,6 +1,6 @@
 -- What is made of a log where an empty file becomes current.
 use Rattle.std.proofs.Common.{◌≡◌, ◌==◌, ◌&&◌, Bool, true, nat_le, if◌then◌else◌, inl, ℕ, ◌+◌, ◌≤◌, ◌<◌, List, [], ◌∷◌, ◌++◌, length, refl, sym, ◌∙◌, ap, subst, arith}
-use Rattle.std.specs.Prelude.{Contains, slice_index}
+use Rattle.std.specs.Prelude.{Contains, IsTrue, slice_index}
 use Rattle.std.proofs.lemmas.Bool.Decides.{nat_tests}
 use Rattle.pdb_disk.specs.Files.{Files}
 use Rattle.pdb_model.specs.Logs.{IsLogFile, gate_file, most_in_log}
@@ -22,11 +22,11 @@ none_right : (xs ys : List Record) → xs ++ ys ≡ [] → ys ≡ []
 none_right [] ys e = e
 none_right (x ∷ xs) ys e = let l = ap length e in absurd (omega (arith, l))
 
-module _ {D : Type 0} (tells : D → Type 0) (clock : D → ℕ) (past : D → ℕ → Files) (log new : Log D) (file : ℕ) (l : Ledger) (rows : List Row) (f : ℕ) (m : IsLogFile file) (is : IsLog tells clock past log l rows f) where
+module _ {D : Type 0} (tells : D → Bool) (clock : D → ℕ) (past : D → ℕ → Files) (log new : Log D) (file : ℕ) (l : Ledger) (rows : List Row) (f : ℕ) (m : IsLogFile file) (is : IsLog tells clock past log l rows f) where
   pub turned_log : new.disk ≡ log.disk → new.gate ≡ log.gate → new.file.number ≡ file → new.number ≡ log.number → new.ends ≡ log.ends → new.synced ≡ log.synced → SetTo log.last new.last file log.number
       → slice_index log.ends file ≡ 0 → IsLog tells clock past new (emptied l file (log.number + 1)) rows f
   turned_log on gate ring number ends synced lasts zero = record {
-    told = subst tells (sym on) is.told;
+    told = subst (λ d. IsTrue (tells d)) (sym on) is.told;
     stands = moved (λ fs. StandsInFiles fs (emptied l file (log.number + 1))) (record {
       segments = λ j. each_segment (λ k h. IsLogFile k → Lies (past log.disk (clock log.disk) k) h l.gate.number) l.segments file g
           (λ mk. inl here) (λ k ne mk. is.stands.segments k mk) j;
@@ -106,7 +106,7 @@ turns_when log next e full zero =
     both_true (nat_le 262144 (end_of_log log)) (slice_index log.ends (next_in_ring log.file.number) == 0) (grind (arith, nat_tests)) (grind (arith, nat_tests))
 
 -- the next file becomes current
-pub turned_next : {D : Type 0} (tells : D → Type 0) (clock : D → ℕ) (past : D → ℕ → Files) (log new : Log D) (l : Ledger) (rows : List Row) (f : ℕ) → IsLog tells clock past log l rows f
+pub turned_next : {D : Type 0} (tells : D → Bool) (clock : D → ℕ) (past : D → ℕ → Files) (log new : Log D) (l : Ledger) (rows : List Row) (f : ℕ) → IsLog tells clock past log l rows f
     → new.disk ≡ log.disk → new.gate ≡ log.gate → new.file.number ≡ next_in_ring log.file.number → new.number ≡ log.number → new.ends ≡ log.ends → new.synced ≡ log.synced → SetTo log.last new.last new.file.number log.number
     → 262144 ≤ end_of_log log → slice_index log.ends new.file.number ≡ 0 → IsLog tells clock past new (turned log l) rows f
 turned_next tells clock past log new l rows f is on gate ring number ends synced lasts full zero =

@@ -1,3 +1,4 @@
 pub mod Ledger
 pub mod Answers
 pub mod Standing
+pub mod Recovered

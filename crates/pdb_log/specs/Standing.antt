@@ -1,5 +1,5 @@
 -- What a log's fields say of the files.
-use Rattle.std.specs.Prelude.{◌≡◌, ◌≤◌, ◌==◌, ◌&&◌, ℕ, ◌+◌, ◌*◌, Bool, List, ◌++◌, Contains, if◌then◌else◌, length, nat_le, slice_index}
+use Rattle.std.specs.Prelude.{IsTrue, ◌≡◌, ◌≤◌, ◌==◌, ◌&&◌, ℕ, ◌+◌, ◌*◌, Bool, List, ◌++◌, Contains, if◌then◌else◌, length, nat_le, slice_index}
 use Rattle.pdb_cells.specs.declared.Put.{Put}
 use Rattle.pdb_disk.specs.Files.{Files}
 use Rattle.pdb_model.specs.Logs.{IsLogFile, gate_file, most_in_log}
@@ -11,8 +11,8 @@ use Rattle.pdb_log.specs.declared.log.Log.{Log}
 
 -- The log stands for these rows, the one at place f being that of the last flushed record, and its records lie in the files as
 -- the ledger says.
-pub record IsLog {D : Type 0} (tells : D → Type 0) (clock : D → ℕ) (past : D → ℕ → Files) (log : Log D) (l : Ledger) (rows : List Row) (f : ℕ) : Type 0 where
-  pub told : tells log.disk
+pub record IsLog {D : Type 0} (tells : D → Bool) (clock : D → ℕ) (past : D → ℕ → Files) (log : Log D) (l : Ledger) (rows : List Row) (f : ℕ) : Type 0 where
+  pub told : IsTrue (tells log.disk)
   pub stands : StandsInFiles (past log.disk (clock log.disk)) l
   pub gate : IsKeptGate (past log.disk (clock log.disk) gate_file) l.gate
   pub gate_read : (past log.disk (clock log.disk) gate_file).read ≡ (past log.disk (clock log.disk) gate_file).kept
@@ -59,3 +59,8 @@ pub record IsCellAt (p : Put) (file at : ℕ) (bytes : List ℕ) : Type 0 where
   pub here : p.name.file ≡ file
   pub place : p.name.index * length p.bytes ≡ at
   pub same : p.bytes ≡ bytes
+
+-- A disk before and after a call for the log: it goes on to tell its content, and the files with cells are as they were.
+pub record LeavesCells {D : Type 0} (tells : D → Bool) (clock : D → ℕ) (past : D → ℕ → Files) (old new : D) : Type 0 where
+  pub told : IsTrue (tells old) → IsTrue (tells new)
+  pub cells : IsTrue (tells old) → (j : ℕ) → 9 ≤ j → past new (clock new) j ≡ past old (clock old) j

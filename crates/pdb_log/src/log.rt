@@ -1,4 +1,4 @@
-ghost use Rattle.std.specs.Prelude.{◌≡◌, ◌≢◌, ◌≤◌, ◌<◌, ◌+◌, ◌-◌, ◌^◌, ◌++◌, ◌↔◌, ℕ, List, [], ◌∷◌, All, Contains, IfErr, IfOk, IsErr, IsErrOf, OnErr, OnOk, false, is_err, length, slice_get, slice_index, Some, if◌then◌else◌};
+ghost use Rattle.std.specs.Prelude.{IsTrue, ◌⊎◌, ◌≡◌, ◌≢◌, ◌≤◌, ◌<◌, ◌+◌, ◌-◌, ◌^◌, ◌++◌, ◌↔◌, ℕ, List, [], ◌∷◌, All, Contains, IfErr, IfOk, IsErr, IsErrOf, OnErr, OnOk, false, is_err, length, slice_get, slice_index, Some, if◌then◌else◌};
 ghost use Rattle.sdb_io.specs.Faults.{CountsFault};
 ghost use Rattle.pdb_cells.specs.Puts.{IsWholeCell, NoCellTwice};
 ghost use Rattle.pdb_cells.specs.declared.Put.{Put};
@@ -7,13 +7,14 @@ ghost use Rattle.pdb_disk.specs.Files.{Step as step};
 ghost use Rattle.pdb_disk.specs.Moments.{Moments};
 ghost use Rattle.pdb_model.specs.Logs.{IsLogFile, gate_file, most_in_log};
 ghost use Rattle.pdb_model.specs.Records.{Record, body_bytes, record_bytes};
+ghost use Rattle.sdb_base.specs.declared.Counter.{Counter};
 
 use crate::fault::LogFault;
 use crate::ring_file::RingFile;
-use pdb_cells::{Put, Puts};
+use pdb_cells::Puts;
 use pdb_disk::{Disk, DiskFault};
 use pdb_model::GateSlot;
-use pdb_record::{encode, gate_bytes};
+use pdb_record::{body_len, encode, gate_bytes};
 use sdb_base::Counter;
 use std::alloc::Global;
 
@@ -26,10 +27,8 @@ const FULL: u64 = 262_144;
 // the second gate slot begins after so many bytes
 const BETWEEN_SLOTS: u64 = 4096;
 
-// a header and two checksums take so many bytes, a put's file and index so many
+// a record has so many bytes around its body
 const AROUND_BODY: u64 = 56;
-
-const BEFORE_CELL: u64 = 10;
 
 /// Where a record stands.
 #[derive(Clone, Copy, Debug, PartialEq, Eq)]
@@ -45,7 +44,8 @@ pub struct LogPlace {
 }
 
 /// The ring of log files.
-pub struct Log<D: Disk> {
+#[derive(Drop)]
+pub struct Log<D> {
     disk: D,
     // the gate in force
     gate: GateSlot,
@@ -60,27 +60,15 @@ pub struct Log<D: Disk> {
     last: [u64; 5],
 }
 
-/// How many bytes the record of these puts has.
-fn record_len(puts: &[Put]) -> u64
-    requires { length (body_bytes puts.now) ≤ 2 ^ 62 }
-    ensures { result ≡ 56 + length (body_bytes puts.now) }
-{
-    let mut len = AROUND_BODY;
-    for put in puts {
-        len += BEFORE_CELL + put.bytes.len() as u64;
-    }
-    len
-}
-
 impl<D: Disk> Log<D> {
     ghost use Rattle.pdb_model.specs.Recovery.{Row, Safe};
     ghost use Rattle.pdb_log.specs.Answers.{log_disk_fails};
     ghost use Rattle.pdb_log.specs.Ledger.{AreRows, IsEmptyFile, IsKeptGate, IsNextGate, IsPassed, Ledger, records_flushed, appended, cleared, emptied, file_synced, files_cleared, files_synced, fresh_ledger, passed, row_after};
-    ghost use Rattle.pdb_log.specs.Standing.{IsCellAt, IsLog, end_of_log, next_gate, next_in_ring, next_record, turned, turns};
+    ghost use Rattle.pdb_log.specs.Standing.{IsCellAt, IsLog, LeavesCells, end_of_log, next_gate, next_in_ring, next_record, turned, turns};
 
     /// The log after a gate that is in force, where all log files are empty.
     pub fn begin(disk: D, gate: GateSlot) -> Log<D>
-        ensures begun { (row : Row) → D.tells disk
+        ensures begun { (row : Row) → IsTrue (D.tells disk)
             → IsKeptGate (D.past disk (D.clock disk) gate_file) gate
             → (D.past disk (D.clock disk) gate_file).read ≡ (D.past disk (D.clock disk) gate_file).kept
             → ((j : ℕ) → IsLogFile j → IsEmptyFile (D.past disk (D.clock disk) j))
@@ -124,6 +112,8 @@ impl<D: Disk> Log<D> {
         ensures records_end { IsErrOf result (LogFault.NumbersEnd Counter.Records) ↔ (self.old.number ≡ 2 ^ 64 - 1) }
         ensures bytes_end { IsErrOf result (LogFault.NumbersEnd Counter.LogBytes) ↔ ((self.old.number ≢ 2 ^ 64 - 1)
             × (most_in_log < end_of_log self.old + length (record_bytes (next_record self.old commits puts.now)))) }
+        ensures ends { (which : Counter) → IsErrOf result (LogFault.NumbersEnd which) → (which ≡ Counter.Records) ⊎ (which ≡ Counter.LogBytes) }
+        ensures aside { LeavesCells D.tells D.clock D.past self.old.disk self.new.disk }
         ensures counted { CountsFault (log_disk_fails result) (D.fault_count self.old.disk) (D.fault_count self.new.disk) }
     {
         if self.number == u64::MAX {
@@ -133,7 +123,7 @@ impl<D: Disk> Log<D> {
         }
         let file = self.file.number;
         let at = self.ends[file as usize];
-        let len = record_len(puts.as_slice());
+        let len = AROUND_BODY + body_len(puts.as_slice());
         if at > MOST || len > MOST - at {
             return Err(LogFault::NumbersEnd {
                 which: Counter::LogBytes,
@@ -183,6 +173,7 @@ impl<D: Disk> Log<D> {
             → OnOk result (IsLog D.tells D.clock D.past self.new (file_synced l file) rows f) }
         ensures any_moment { (l : Ledger) → (rows : List Row) → (f : ℕ) → IsLog D.tells D.clock D.past self.old l rows f
             → Moments (D.clock self.old.disk) (D.clock self.new.disk) (D.past self.old.disk) (D.past self.new.disk) (Safe rows f) }
+        ensures aside { LeavesCells D.tells D.clock D.past self.old.disk self.new.disk }
         ensures counted { CountsFault (is_err result) (D.fault_count self.old.disk) (D.fault_count self.new.disk) }
     {
         match self.disk.sync(file) {
@@ -202,6 +193,7 @@ impl<D: Disk> Log<D> {
         ensures any_moment { (l : Ledger) → (rows : List Row) → (f : ℕ) → IsLog D.tells D.clock D.past self.old l rows f
             → Moments (D.clock self.old.disk) (D.clock self.new.disk) (D.past self.old.disk) (D.past self.new.disk) (Safe rows f) }
         ensures idle { slice_index self.old.ends file ≤ slice_index self.old.synced file → self.new ≡ self.old }
+        ensures aside { LeavesCells D.tells D.clock D.past self.old.disk self.new.disk }
         ensures counted { CountsFault (is_err result) (D.fault_count self.old.disk) (D.fault_count self.new.disk) }
     {
         if self.synced[file as usize] < self.ends[file as usize] {
@@ -219,6 +211,7 @@ impl<D: Disk> Log<D> {
             → Moments (D.clock self.old.disk) (D.clock self.new.disk) (D.past self.old.disk) (D.past self.new.disk) (Safe rows f) }
         ensures idle { (l : Ledger) → (rows : List Row) → (f : ℕ) → IsLog D.tells D.clock D.past self.old l rows f
             → ((j : ℕ) → IsLogFile j → (l.segments j).pending ≡ []) → self.new ≡ self.old }
+        ensures aside { LeavesCells D.tells D.clock D.past self.old.disk self.new.disk }
         ensures counted { CountsFault (is_err result) (D.fault_count self.old.disk) (D.fault_count self.new.disk) }
     {
         self.sync_records(1)?;
@@ -239,6 +232,8 @@ impl<D: Disk> Log<D> {
             → IsNextGate rows f (D.past self.old.disk (D.clock self.old.disk)) l g dropped flushed
             → Moments (D.clock self.old.disk) (D.clock self.new.disk) (D.past self.old.disk) (D.past self.new.disk) (Safe rows f) }
         ensures number { self.new.number ≡ self.old.number }
+        ensures aside { LeavesCells D.tells D.clock D.past self.old.disk self.new.disk }
+        ensures gate { OnOk result (self.new.gate ≡ g) }
         ensures counted { CountsFault (is_err result) (D.fault_count self.old.disk) (D.fault_count self.new.disk) }
     {
         let bytes = gate_bytes(&g);
@@ -267,6 +262,8 @@ impl<D: Disk> Log<D> {
             → IsPassed (l.segments file) l.gate.number
             → Moments (D.clock self.old.disk) (D.clock self.new.disk) (D.past self.old.disk) (D.past self.new.disk) (Safe rows f) }
         ensures number { self.new.number ≡ self.old.number }
+        ensures aside { LeavesCells D.tells D.clock D.past self.old.disk self.new.disk }
+        ensures gate { self.new.gate ≡ self.old.gate }
         ensures counted { CountsFault (is_err result) (D.fault_count self.old.disk) (D.fault_count self.new.disk) }
     {
         match self.disk.cut(file) {
@@ -291,6 +288,8 @@ impl<D: Disk> Log<D> {
         ensures any_moment { (l : Ledger) → (rows : List Row) → (f : ℕ) → IsLog D.tells D.clock D.past self.old l rows f
             → Moments (D.clock self.old.disk) (D.clock self.new.disk) (D.past self.old.disk) (D.past self.new.disk) (Safe rows f) }
         ensures number { self.new.number ≡ self.old.number }
+        ensures aside { LeavesCells D.tells D.clock D.past self.old.disk self.new.disk }
+        ensures gate { self.new.gate ≡ self.old.gate }
         ensures counted { CountsFault (is_err result) (D.fault_count self.old.disk) (D.fault_count self.new.disk) }
     {
         if self.ends[file as usize] > 0 && self.last[file as usize] <= self.gate.number {
@@ -313,6 +312,8 @@ impl<D: Disk> Log<D> {
             → IsLog D.tells D.clock D.past self.old l rows f
             → IsNextGate rows f (D.past self.old.disk (D.clock self.old.disk)) l (next_gate self.old number commits) dropped flushed
             → Moments (D.clock self.old.disk) (D.clock self.new.disk) (D.past self.old.disk) (D.past self.new.disk) (Safe rows f) }
+        ensures aside { LeavesCells D.tells D.clock D.past self.old.disk self.new.disk }
+        ensures gate { OnOk result (self.new.gate ≡ next_gate self.old number commits) }
         ensures counted { CountsFault (is_err result) (D.fault_count self.old.disk) (D.fault_count self.new.disk) }
     {
         let gate = GateSlot {
@@ -333,13 +334,15 @@ impl<D: Disk> Log<D> {
         requires { at + length into.old ≤ 2 ^ 63 }
         ensures stands { (l : Ledger) → (rows : List Row) → (f : ℕ) → IsLog D.tells D.clock D.past self.old l rows f
             → IsLog D.tells D.clock D.past self.new l rows f }
-        ensures bytes { OnOk result (D.tells self.old.disk
+        ensures bytes { OnOk result (IsTrue (D.tells self.old.disk)
             → StandsAt (D.past self.old.disk (D.clock self.old.disk) file).read at into.new) }
         ensures time { D.clock self.new.disk ≡ D.clock self.old.disk }
         ensures unchanged { D.past self.new.disk ≡ D.past self.old.disk }
-        ensures told { D.tells self.old.disk → D.tells self.new.disk }
+        ensures told { IsTrue (D.tells self.old.disk) → IsTrue (D.tells self.new.disk) }
         ensures fault { IfErr result (λ e. e ≡ DiskFault.Read) }
+        ensures rest { self.new ≡ record self.old { disk = self.new.disk } }
         ensures counted { CountsFault (is_err result) (D.fault_count self.old.disk) (D.fault_count self.new.disk) }
+        ensures faults { D.fault_count self.old.disk ≤ D.fault_count self.new.disk }
         ensures reads { D.read_count self.old.disk ≤ D.read_count self.new.disk }
         ensures one_read { D.read_count self.new.disk ≤ D.read_count self.old.disk + 1 }
     {
@@ -361,14 +364,15 @@ impl<D: Disk> Log<D> {
             → IsLog D.tells D.clock D.past self.old l rows f → Contains l.flushed r → Contains r.puts p → IsCellAt p file at bytes.now
             → Moments (D.clock self.old.disk) (D.clock self.new.disk) (D.past self.old.disk) (D.past self.new.disk) (Safe rows f) }
         ensures time { Elapses (D.clock self.old.disk) (D.clock self.new.disk) (D.past self.old.disk) (D.past self.new.disk) }
-        ensures begun { OnOk result (D.tells self.old.disk → Begins file (step.Write at bytes.now)
+        ensures begun { OnOk result (IsTrue (D.tells self.old.disk) → Begins file (step.Write at bytes.now)
             (D.past self.old.disk (D.clock self.old.disk)) (D.past self.new.disk (D.clock self.new.disk))) }
-        ensures written { OnOk result (D.tells self.old.disk → (D.past self.new.disk (D.clock self.new.disk) file).read
+        ensures written { OnOk result (IsTrue (D.tells self.old.disk) → (D.past self.new.disk (D.clock self.new.disk) file).read
             ≡ done (D.past self.old.disk (D.clock self.old.disk) file).read (step.Write at bytes.now)) }
-        ensures failed { OnErr result (D.tells self.old.disk → MayBegin file (step.Write at bytes.now)
+        ensures failed { OnErr result (IsTrue (D.tells self.old.disk) → MayBegin file (step.Write at bytes.now)
             (D.past self.old.disk (D.clock self.old.disk)) (D.past self.new.disk (D.clock self.new.disk))) }
-        ensures told { D.tells self.old.disk → D.tells self.new.disk }
+        ensures told { IsTrue (D.tells self.old.disk) → IsTrue (D.tells self.new.disk) }
         ensures fault { IfErr result (λ e. e ≡ DiskFault.Write) }
+        ensures rest { self.new ≡ record self.old { disk = self.new.disk } }
         ensures counted { CountsFault (is_err result) (D.fault_count self.old.disk) (D.fault_count self.new.disk) }
         ensures reads { D.read_count self.new.disk ≡ D.read_count self.old.disk }
     {
@@ -386,12 +390,13 @@ impl<D: Disk> Log<D> {
         ensures any_moment { (l : Ledger) → (rows : List Row) → (f : ℕ) → IsLog D.tells D.clock D.past self.old l rows f
             → Moments (D.clock self.old.disk) (D.clock self.new.disk) (D.past self.old.disk) (D.past self.new.disk) (Safe rows f) }
         ensures time { Elapses (D.clock self.old.disk) (D.clock self.new.disk) (D.past self.old.disk) (D.past self.new.disk) }
-        ensures synced { OnOk result (D.tells self.old.disk
+        ensures synced { OnOk result (IsTrue (D.tells self.old.disk)
             → Settles file (D.past self.old.disk (D.clock self.old.disk)) (D.past self.new.disk (D.clock self.new.disk))) }
-        ensures failed { OnErr result (D.tells self.old.disk
+        ensures failed { OnErr result (IsTrue (D.tells self.old.disk)
             → D.past self.new.disk (D.clock self.new.disk) ≡ D.past self.old.disk (D.clock self.old.disk)) }
-        ensures told { D.tells self.old.disk → D.tells self.new.disk }
+        ensures told { IsTrue (D.tells self.old.disk) → IsTrue (D.tells self.new.disk) }
         ensures fault { IfErr result (λ e. e ≡ DiskFault.Sync) }
+        ensures rest { self.new ≡ record self.old { disk = self.new.disk } }
         ensures counted { CountsFault (is_err result) (D.fault_count self.old.disk) (D.fault_count self.new.disk) }
         ensures reads { D.read_count self.new.disk ≡ D.read_count self.old.disk }
     {

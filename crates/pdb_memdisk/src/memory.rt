@@ -229,7 +229,7 @@ impl Disk for MemDisk {
     ghost use Rattle.pdb_memdisk.specs.inner.Laws.{settled_image, replayed_image};
     ghost use Rattle.pdb_memdisk.specs.Record.{until};
 
-    ghost tells = { λ d. Unit {0} };
+    ghost tells = { λ d. true };
 
     ghost clock = { λ d. clock_of d };
 
@@ -249,6 +249,7 @@ impl Disk for MemDisk {
         ensures unchanged { past_of self.new ≡ past_of self.old }
         ensures fault { IfErr result (λ e. e ≡ DiskFault.Read) }
         ensures counted { CountsFault (is_err result) (failed_by self.old) (failed_by self.new) }
+        ensures faults { failed_by self.old ≤ failed_by self.new }
         ensures reads { reads_by self.old ≤ reads_by self.new }
         ensures one_read { reads_by self.new ≤ reads_by self.old + 1 }
         ensures exact { reads_by self.new ≡ one_more (reads_by self.old) }

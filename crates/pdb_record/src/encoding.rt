@@ -14,8 +14,8 @@ pub(crate) const BEFORE_CELL: usize = 10;
 // a header and the checksum at a record's end take so many bytes
 pub(crate) const AROUND_BODY: usize = 56;
 
-/// How long a body of these puts is, in bytes.
-fn body_len(puts: &[Put]) -> u64
+/// How long the body of a record of these puts is, in bytes.
+pub fn body_len(puts: &[Put]) -> u64
     requires { length (body_bytes puts.now) ≤ 2 ^ 62 }
     ensures { result ≡ length (body_bytes puts.now) }
 {

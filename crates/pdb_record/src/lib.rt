@@ -27,7 +27,7 @@ mod record_ref;
 mod repeats;
 mod scanner;
 
-pub use encoding::encode;
+pub use encoding::{body_len, encode};
 pub use gate::{gate_bytes, read_gate};
 pub use heads::{Head, header};
 pub use pdb_model::GateSlot;

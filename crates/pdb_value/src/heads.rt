@@ -120,8 +120,8 @@ fn are_ends(cell: &[u8]) -> bool
     true
 }
 
-// whether a cell is a head cell that keeps the rules
-fn is_head(cell: &[u8]) -> bool
+/// Whether a cell, of 256 bytes, is a head cell that keeps the rules.
+pub fn is_head(cell: &[u8]) -> bool
     requires { length cell.now ≡ 256 }
     ensures { IsTrue result ↔ IsHeadCell cell.now }
 {

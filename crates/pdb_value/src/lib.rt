@@ -29,7 +29,7 @@ mod values;
 mod writing;
 
 pub use fault::ValueFault;
-pub use heads::{TierEnds, ends_of, read_head};
+pub use heads::{TierEnds, ends_of, is_head, read_head};
 pub use pdb_cells::OutOfMemory;
 pub use pdb_model::Address;
 pub use placing::place;

@@ -40,7 +40,7 @@ pub returns-then-at-gt-MOST-clause-bytes_end : goal.returns-then-at-gt-MOST-clau
 returns-then-at-gt-MOST-clause-bytes_end g c =
     let r : Record = next_record c.args.self.now c.args.commits c.args.puts.now in
     let short : length (record_bytes r) ≡ 56 + length (body_bytes c.args.puts.now) = record_len r in
-    let len : c.record_len-len.result ≡ 56 + length (body_bytes c.args.puts.now) = c.record_len-len.ensures ∙ ap (λ (ps : List Put). 56 + length (body_bytes ps)) c.as_slice.ensures in
+    let len : 56 + c.body_len-len.result ≡ 56 + length (body_bytes c.args.puts.now) = ap (λ n. 56 + n) (c.body_len-len.ensures ∙ ap (λ (ps : List Put). length (body_bytes ps)) c.as_slice.ensures) in
     let past : most_in_log < end_of_log c.args.self.now + length (record_bytes r) = elim c.then-at-gt-MOST.branch [
       | then-at-gt-MOST-via-then-at-gt-MOST w ↦ let high = w.if-at-gt-MOST.true in omega (arith, high)
       | then-at-gt-MOST-via-else-at-gt-MOST+then-len-at w ↦ let high = w.if-len-at.true in let low = w.if-at-gt-MOST.false in omega (arith, high, low, len, short)
@@ -51,7 +51,7 @@ pub returns-in_default-clause-bytes_end : goal.returns-in_default-clause-bytes_e
 returns-in_default-clause-bytes_end g c =
     let r : Record = next_record c.args.self.now c.args.commits c.args.puts.now in
     let short : length (record_bytes r) ≡ 56 + length (body_bytes c.args.puts.now) = record_len r in
-    let len : c.record_len-len.result ≡ 56 + length (body_bytes c.args.puts.now) = c.record_len-len.ensures ∙ ap (λ (ps : List Put). 56 + length (body_bytes ps)) c.as_slice.ensures in
+    let len : 56 + c.body_len-len.result ≡ 56 + length (body_bytes c.args.puts.now) = ap (λ n. 56 + n) (c.body_len-len.ensures ∙ ap (λ (ps : List Put). length (body_bytes ps)) c.as_slice.ensures) in
     let low = c.if-at-gt-MOST.false in
     let fits = c.if-len-at.false in
     ((λ e. cc), (λ h. let past = h.1 in absurd (omega (arith, past, short, len, low, fits))))
@@ -62,18 +62,18 @@ returns-in-Ok-write_at-clause-appended g c l rows f row is last =
     let e = c.write_at.ensures in
     let bytes : c.as_slice-2.result.now ≡ record_bytes r = c.as_slice-2.ensures ∙ c.in-Ok.ensures in
     let short : length (record_bytes r) ≡ 56 + length (body_bytes c.args.puts.now) = record_len r in
-    let len : c.record_len-len.result ≡ length (record_bytes r) = c.record_len-len.ensures ∙ ap (λ (ps : List Put). 56 + length (body_bytes ps)) c.as_slice.ensures ∙ sym short in
+    let len : 56 + c.body_len-len.result ≡ length (record_bytes r) = ap (λ n. 56 + n) (c.body_len-len.ensures ∙ ap (λ (ps : List Put). length (body_bytes ps)) c.as_slice.ensures) ∙ sym short in
     let low = c.if-at-gt-MOST.false in
     let fits = c.if-len-at.false in
     let count : c.args.self.now.number + 1 < 2 ^ 64 = search rules in
     let ring = c.args.self.now.file.in_ring in
     let five : length c.args.self.now.ends ≡ 5 = search rules in
     let five_too : length c.args.self.now.last ≡ 5 = search rules in
-    let ends = set_to c.args.self.now.ends c.args.self.now.file.number (end_of_log c.args.self.now + c.record_len-len.result) (let p = ring.1 in omega (arith, five, p)) in
+    let ends = set_to c.args.self.now.ends c.args.self.now.file.number (end_of_log c.args.self.now + (56 + c.body_len-len.result)) (let p = ring.1 in omega (arith, five, p)) in
     write_log g.D.Disk.tells g.D.Disk.clock g.D.Disk.past c.args.self.now c.write_at.new.self r l rows f row
     (good_record (c.args.self.now.number + 1) c.args.commits c.args.puts.now (omega arith) count (search rules) c.requires.short c.requires.whole c.requires.once)
     refl is last _ refl refl refl refl refl
-    (subst (λ n. SetTo c.args.self.now.ends (set c.args.self.now.ends c.args.self.now.file.number (end_of_log c.args.self.now + c.record_len-len.result)) c.args.self.now.file.number (end_of_log c.args.self.now + n)) len ends)
+    (subst (λ n. SetTo c.args.self.now.ends (set c.args.self.now.ends c.args.self.now.file.number (end_of_log c.args.self.now + (56 + c.body_len-len.result))) c.args.self.now.file.number (end_of_log c.args.self.now + n)) len ends)
     (set_to c.args.self.now.last c.args.self.now.file.number (c.args.self.now.number + 1) (let p = ring.1 in omega (arith, five_too, p)))
     (omega (arith, len, low, fits))
     (e.told is.told)
@@ -93,14 +93,14 @@ returns-in-Ok-write_at-clause-any_moment g c l rows f row is last =
 pub returns-in-Ok-write_at-clause-place : goal.returns-in-Ok-write_at-clause-place
 returns-in-Ok-write_at-clause-place g c =
     let r : Record = next_record c.args.self.now c.args.commits c.args.puts.now in
-    let len : c.record_len-len.result ≡ length (record_bytes r) = c.record_len-len.ensures ∙ ap (λ (ps : List Put). 56 + length (body_bytes ps)) c.as_slice.ensures ∙ sym (record_len r) in
+    let len : 56 + c.body_len-len.result ≡ length (record_bytes r) = ap (λ n. 56 + n) (c.body_len-len.ensures ∙ ap (λ (ps : List Put). length (body_bytes ps)) c.as_slice.ensures) ∙ sym (record_len r) in
     λ i. record { number = c.args.self.now.number + 1; file = c.args.self.now.file.number; at = end_of_log c.args.self.now; len = len i }
 
 pub returns-in-Ok-write_at-clause-bytes_end : goal.returns-in-Ok-write_at-clause-bytes_end
 returns-in-Ok-write_at-clause-bytes_end g c =
     let r : Record = next_record c.args.self.now c.args.commits c.args.puts.now in
     let short : length (record_bytes r) ≡ 56 + length (body_bytes c.args.puts.now) = record_len r in
-    let len : c.record_len-len.result ≡ 56 + length (body_bytes c.args.puts.now) = c.record_len-len.ensures ∙ ap (λ (ps : List Put). 56 + length (body_bytes ps)) c.as_slice.ensures in
+    let len : 56 + c.body_len-len.result ≡ 56 + length (body_bytes c.args.puts.now) = ap (λ n. 56 + n) (c.body_len-len.ensures ∙ ap (λ (ps : List Put). length (body_bytes ps)) c.as_slice.ensures) in
     let low = c.if-at-gt-MOST.false in
     let fits = c.if-len-at.false in
     ((λ e. cc), (λ h. let past = h.1 in absurd (omega (arith, past, short, len, low, fits))))
@@ -119,7 +119,7 @@ pub returns-clause-bytes_end : goal.returns-clause-bytes_end
 returns-clause-bytes_end g c =
     let r : Record = next_record c.args.self.now c.args.commits c.args.puts.now in
     let short : length (record_bytes r) ≡ 56 + length (body_bytes c.args.puts.now) = record_len r in
-    let len : c.record_len-len.result ≡ 56 + length (body_bytes c.args.puts.now) = c.record_len-len.ensures ∙ ap (λ (ps : List Put). 56 + length (body_bytes ps)) c.as_slice.ensures in
+    let len : 56 + c.body_len-len.result ≡ 56 + length (body_bytes c.args.puts.now) = ap (λ n. 56 + n) (c.body_len-len.ensures ∙ ap (λ (ps : List Put). length (body_bytes ps)) c.as_slice.ensures) in
     let low = c.if-at-gt-MOST.false in
     let fits = c.if-len-at.false in
     ((λ e. cc), (λ h. let past = h.1 in absurd (omega (arith, past, short, len, low, fits))))
