@@ -1,0 +1,5 @@
+pub mod Answers
+pub mod Heads
+pub mod Recovering
+pub mod Scanning
+pub mod inner

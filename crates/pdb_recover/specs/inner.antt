@@ -1,0 +1,3 @@
+pub mod NextRecords
+pub mod ReadPuts
+pub mod ScanSteps
