@@ -1,0 +1,24 @@
+use Rattle.std.proofs.Common.{◌∙◌, ap}
+use Rattle.pdb_disk.proofs.Calls.{no_call}
+use Rattle.pdb_model.specs.Recovery.{Safe}
+use Rattle.pdb_model.specs.declared.gate_slot.GateSlot.{GateSlot}
+use Rattle.pdb_redo.proofs.Appended.{safe_now_of}
+use Rattle.pdb_redo.proofs.Emptied.{files_empty, nothing_waits}
+use Rattle.pdb_redo.proofs.redo_log.Redo.clean.Goals as goal
+
+pub returns-then-self-gate-clause-any_moment : goal.returns-then-self-gate-clause-any_moment
+returns-then-self-gate-clause-any_moment g c rows f is = no_call _ _ (Safe rows f) (safe_now_of g.D.Disk.tells g.D.Disk.clock g.D.Disk.past c.args.self.now rows f is)
+
+pub returns-then-self-gate-clause-empty : goal.returns-then-self-gate-clause-empty
+returns-then-self-gate-clause-empty g c rows f is all =
+    files_empty g.D.Disk.tells g.D.Disk.clock g.D.Disk.past c.args.self.now rows f is
+    (nothing_waits g.D.Disk.tells g.D.Disk.clock g.D.Disk.past c.args.self.now rows f is (c.if-self-gate.true ∙ ap (λ (s : GateSlot). s.number) c.gate-gate.ensures) all)
+
+pub returns-then-gate-clause-any_moment : goal.returns-then-gate-clause-any_moment
+returns-then-gate-clause-any_moment g c rows f is = no_call _ _ (Safe rows f) (safe_now_of g.D.Disk.tells g.D.Disk.clock g.D.Disk.past c.args.self.now rows f is)
+
+pub returns-in-Err-clause-any_moment : goal.returns-in-Err-clause-any_moment
+returns-in-Err-clause-any_moment g c rows f is = rw c.stop.ensures.noted (c.pass_enacted.ensures.any_moment rows f is)
+
+pub returns-in-Err-clause-cells : goal.returns-in-Err-clause-cells
+returns-in-Err-clause-cells g c told failed file index = rw c.stop.ensures.noted (c.pass_enacted.ensures.cells told file index)

@@ -1,0 +1,75 @@
+use Rattle.std.proofs.Common.{List, All, refl, sym, subst}
+use Rattle.pdb_disk.proofs.Calls.{no_call}
+use Rattle.pdb_model.specs.Records.{Record}
+use Rattle.pdb_model.specs.Recovery.{Safe}
+use Rattle.pdb_cells.specs.Puts.{IsWholeCell}
+use Rattle.pdb_cells.specs.declared.Put.{Put}
+use Rattle.pdb_redo.specs.Backlogs.{records_in}
+use Rattle.pdb_redo.specs.inner.Carrying.{EndAt, HaveWholeCells}
+use Rattle.pdb_redo.specs.inner.Writing.{AreDone, WritesAll}
+use Rattle.pdb_redo.specs.Places.{record_of}
+use Rattle.pdb_redo.proofs.Appended.{safe_now_of}
+use Rattle.pdb_redo.proofs.Carried.{carries_rest, first_is, first_whole, rest_ends}
+use Rattle.pdb_redo.proofs.Enacted.{enacted_redo, is_flushed, same_while_written, waits_somewhere}
+use Rattle.pdb_redo.proofs.redo_log.Redo.enact.Goals as goal
+
+pub returns-then-self-clause-any_moment : goal.returns-then-self-clause-any_moment
+returns-then-self-clause-any_moment g c rows f is = no_call _ _ (Safe rows f) (safe_now_of g.D.Disk.tells g.D.Disk.clock g.D.Disk.past c.args.self.now rows f is)
+
+pub returns-in_default-first-clause-any_moment : goal.returns-in_default-first-clause-any_moment
+returns-in_default-first-clause-any_moment g c rows f is = no_call _ _ (Safe rows f) (safe_now_of g.D.Disk.tells g.D.Disk.clock g.D.Disk.past c.args.self.now rows f is)
+
+pub returns-in_default-first-clause-answer : goal.returns-in_default-first-clause-answer
+returns-in_default-first-clause-answer g c rows f is = absurd (waits_somewhere g.D.Disk.tells g.D.Disk.clock g.D.Disk.past c.args.self.now is.0 rows f is.1 c.if-self.false (sym c.in_default-first.ensures))
+
+pub write_puts-requires : goal.write_puts-requires
+write_puts-requires g c =
+    subst (λ (ps : List Put). All IsWholeCell ps) (sym c.as_slice.ensures) (first_whole (records_in c.args.self.now.backlog) (record_of c.in-Some-first.record.now) c.args.self.now.whole (sym c.in-Some-first.ensures))
+
+pub invariant_of-self-in-Ok : goal.invariant_of-self-in-Ok
+invariant_of-self-in-Ok g c =
+    let r : Record = record_of c.in-Some-first.record.now in
+    let qs = first_is (records_in c.args.self.now.backlog) r (sym c.in-Some-first.ensures) in
+    let left = c.pop.ensures r qs.0 qs.1 in
+    record {
+      whole = subst (λ (rs : List Record). HaveWholeCells rs) (sym left) (carries_rest r qs.0 (subst (λ (rs : List Record). HaveWholeCells rs) qs.1 c.args.self.now.whole));
+      last = subst (λ (rs : List Record). EndAt rs c.args.self.now.appended.number) (sym left) (rest_ends r qs.0 c.args.self.now.appended.number (subst (λ (rs : List Record). EndAt rs c.args.self.now.appended.number) qs.1 c.args.self.now.last));
+    }
+
+pub returns-in-Ok-clause-enacted : goal.returns-in-Ok-clause-enacted
+returns-in-Ok-clause-enacted g c rows f is =
+    let r : Record = record_of c.in-Some-first.record.now in
+    let qs = first_is (records_in c.args.self.now.backlog) r (sym c.in-Some-first.ensures) in
+    let writes = subst (λ (ps : List Put). WritesAll g.D.Disk.tells g.D.Disk.clock g.D.Disk.past ps c.args.self.now.log c.write_puts.new.log) c.as_slice.ensures c.write_puts.ensures.writes in
+    let flushed = is_flushed g.D.Disk.tells g.D.Disk.clock g.D.Disk.past c.args.self.now is.0 rows f is.1 c.if-self.false r qs.0 qs.1 in
+    let told = is.1.log.told in (
+      is.0,
+      enacted_redo g.D.Disk.tells g.D.Disk.clock g.D.Disk.past c.args.self.now is.0 rows f is.1 c.if-self.false r qs.0 qs.1 _
+          (subst (λ (ps : List Put). AreDone g.D.Disk.clock g.D.Disk.past ps c.args.self.now.log c.write_puts.new.log) c.as_slice.ensures (c.in-Ok.ensures.done told))
+          (c.pop.ensures r qs.0 qs.1) refl (writes.stands is.0 rows f r is.1.log flushed (λ p h. h)) (c.in-Ok.ensures.marked told) refl refl refl refl,
+    )
+
+pub returns-in-Ok-clause-any_moment : goal.returns-in-Ok-clause-any_moment
+returns-in-Ok-clause-any_moment g c rows f is =
+    let r : Record = record_of c.in-Some-first.record.now in
+    let qs = first_is (records_in c.args.self.now.backlog) r (sym c.in-Some-first.ensures) in
+    let writes = subst (λ (ps : List Put). WritesAll g.D.Disk.tells g.D.Disk.clock g.D.Disk.past ps c.args.self.now.log c.write_puts.new.log) c.as_slice.ensures c.write_puts.ensures.writes in
+    let flushed = is_flushed g.D.Disk.tells g.D.Disk.clock g.D.Disk.past c.args.self.now is.0 rows f is.1 c.if-self.false r qs.0 qs.1 in
+    writes.moments is.0 rows f r is.1.log flushed (λ p h. h)
+
+pub returns-in-Err-clause-any_moment : goal.returns-in-Err-clause-any_moment
+returns-in-Err-clause-any_moment g c rows f is =
+    let r : Record = record_of c.in-Some-first.record.now in
+    let qs = first_is (records_in c.args.self.now.backlog) r (sym c.in-Some-first.ensures) in
+    let writes = subst (λ (ps : List Put). WritesAll g.D.Disk.tells g.D.Disk.clock g.D.Disk.past ps c.args.self.now.log c.write_puts.new.log) c.as_slice.ensures c.write_puts.ensures.writes in
+    let flushed = is_flushed g.D.Disk.tells g.D.Disk.clock g.D.Disk.past c.args.self.now is.0 rows f is.1 c.if-self.false r qs.0 qs.1 in
+    rw c.stop.ensures.noted (writes.moments is.0 rows f r is.1.log flushed (λ p h. h))
+
+pub returns-in-Err-clause-cells : goal.returns-in-Err-clause-cells
+returns-in-Err-clause-cells g c rows f is failed =
+    let r : Record = record_of c.in-Some-first.record.now in
+    let qs = first_is (records_in c.args.self.now.backlog) r (sym c.in-Some-first.ensures) in
+    let writes = subst (λ (ps : List Put). WritesAll g.D.Disk.tells g.D.Disk.clock g.D.Disk.past ps c.args.self.now.log c.write_puts.new.log) c.as_slice.ensures c.write_puts.ensures.writes in
+    same_while_written g.D.Disk.tells g.D.Disk.clock g.D.Disk.past c.args.self.now is.0 rows f is.1 c.if-self.false r qs.0 qs.1 c.stop.new.self
+    (rw c.stop.ensures.noted refl) (rw c.stop.ensures.noted refl)
+    (λ name none. rw c.stop.ensures.noted (writes.beside is.1.log.told name none))

@@ -1,0 +1,30 @@
+use Rattle.std.proofs.Common.{refl, subst, arith}
+use Rattle.pdb_log.specs.Ledger.{files_synced, records_flushed}
+use Rattle.pdb_redo.specs.Standing.{IsStanding}
+use Rattle.pdb_redo.proofs.Redos.{at_last, flushed_redo, last_commits, same_cells}
+use Rattle.pdb_redo.proofs.redo_log.Redo.flush.Goals as goal
+
+pub returns-in-Ok-clause-flushed : goal.returns-in-Ok-clause-flushed
+returns-in-Ok-clause-flushed g c rows f is =
+    subst (IsStanding g.D.Disk.tells g.D.Disk.clock g.D.Disk.past _ rows) (at_last g.D.Disk.tells g.D.Disk.clock g.D.Disk.past c.args.self.now is.0 rows f is.1) (
+      records_flushed (files_synced is.0),
+      flushed_redo g.D.Disk.tells g.D.Disk.clock g.D.Disk.past c.args.self.now _ is.0 rows f is.1 (c.flush.ensures.aside.cells is.1.log.told) refl refl refl refl refl
+          (c.in-Ok.ensures.flushed is.0 rows f is.1.log) refl refl,
+    )
+
+pub returns-in-Ok-clause-any_moment : goal.returns-in-Ok-clause-any_moment
+returns-in-Ok-clause-any_moment g c rows f is = c.flush.ensures.any_moment is.0 rows f is.1.log
+
+pub returns-in-Ok-clause-answer : goal.returns-in-Ok-clause-answer
+returns-in-Ok-clause-answer g c rows f row is there =
+    last_commits g.D.Disk.tells g.D.Disk.clock g.D.Disk.past c.args.self.now rows f row
+    (g.met.D.Disk.read_is_image c.args.self.now.log.disk (g.D.Disk.clock c.args.self.now.log.disk) is.1.log.told (omega arith)) is there
+
+pub returns-in-Err-clause-any_moment : goal.returns-in-Err-clause-any_moment
+returns-in-Err-clause-any_moment g c rows f is =
+    rw c.stop.ensures.noted (c.flush.ensures.any_moment is.0 rows f is.1.log)
+
+pub returns-in-Err-clause-cells : goal.returns-in-Err-clause-cells
+returns-in-Err-clause-cells g c told failed =
+    same_cells g.D.Disk.tells g.D.Disk.clock g.D.Disk.past c.args.self.now c.stop.new.self (rw c.stop.ensures.noted refl) (rw c.stop.ensures.noted refl)
+    (λ j high. rw c.stop.ensures.noted (c.flush.ensures.aside.cells told j high))

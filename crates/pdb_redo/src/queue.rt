@@ -1,0 +1,10 @@
+use crate::waiting::{Place, Waiting};
+use pdb_cells::CellName;
+use std::collections::{BTreeMap, VecDeque};
+
+/// Records, oldest first, and places of cells among their puts.
+#[derive(Drop)]
+pub(crate) struct Queue {
+    pub(crate) records: VecDeque<Waiting>,
+    pub(crate) places: BTreeMap<CellName, Place>,
+}
