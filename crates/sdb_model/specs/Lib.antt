@@ -4,3 +4,4 @@ pub use Rattle.trie_model.specs.Nibbles
 pub use Rattle.trie_model.specs.Node
 pub use Rattle.trie_model.specs.Trie
 pub mod Blocks
+pub mod Clear

@@ -2,6 +2,7 @@
 use Rattle.std.proofs.Common.{◌≡◌, ◌≢◌, ℕ, ◌+◌, ◌<◌, ◌≤◌, ◌==◌, true, false, List, [], ◌∷◌, length, refl, sym, ◌∙◌, arith, inl, inr, Option, Some, None}
 use Rattle.std.proofs.lemmas.Bool.{cases_lt, le-ltb, lt-ltb, ne_eqb}
 use Rattle.sdb_base.specs.declared.Block.{Block}
+use Rattle.sdb_base.specs.declared.NodeHash.{NodeHash}
 use Rattle.sdb_model.specs.declared.Refusal.TheVariants.{HasGenesis, NoGenesis}
 use Rattle.sdb_model.specs.declared.Reply.{Reply}
 use Rattle.sdb_model.specs.declared.Reply.TheVariants.{Refused}
@@ -12,6 +13,10 @@ use Rattle.sdb_script.specs.declared.Line.TheVariants as lines
 use Rattle.sdb_script.specs.declared.LineReply.{LineReply}
 use Rattle.sdb_script.specs.declared.LineReply.TheVariants as replies
 use Rattle.sdb_serve.specs.inner.Pieces.{as_piece}
+use Rattle.sdb_serve.specs.inner.Steps.{play_fault_of}
+use Rattle.sdb_serve.specs.declared.nodes.NodeFault.{NodeFault}
+use Rattle.sdb_serve.specs.declared.nodes.NodeFault.TheVariants as nodes
+use Rattle.sdb_serve.specs.declared.session.PlayFault.TheVariants.{BadNode}
 use Rattle.sdb_serve.specs.Session.{SessionState, answer, answer_job, play_line, most_bytes, reply_lines}
 
 pub blank : (s : SessionState) → answer s lines.Blank ≡ Some (None, s)
@@ -106,3 +111,10 @@ no_piece (b ∷ bs) e = absurd (no_test (sym (ne_eqb (length (b ∷ bs)) 0 (λ h
 pub some_piece : (text : List ℕ) → (length text == 0) ≡ false → as_piece text ≡ text ∷ []
 some_piece [] e = absurd cc
 some_piece (b ∷ bs) e = refl
+
+-- ---- a job's fault
+
+-- a job meets a bad node only where that isn't ruled out
+pub meets_node : (fault : NodeFault) (hash : NodeHash) → play_fault_of fault ≡ BadNode hash → fault ≡ nodes.OutOfMemory → ⊥
+meets_node nodes.OutOfMemory hash e f = absurd cc
+meets_node (nodes.BadNode other) hash e f = absurd cc

@@ -1,19 +1,20 @@
 -- How a run is closed, and what a status then says of its input.
-use Rattle.std.proofs.Common.{◌≡◌, ◌≢◌, ℕ, Bool, true, false, arith, List, [], ◌∷◌, codes, refl, sym, ap, subst, ◌∙◌, inl, inr, Option, append-nil}
+use Rattle.std.proofs.Common.{◌≡◌, ℕ, true, false, arith, List, [], ◌∷◌, codes, refl, sym, ap, subst, ◌∙◌, inl, inr, Option, append-nil}
 use Rattle.std.specs.Prelude.{◌⊎◌}
 use Rattle.std.proofs.lemmas.Bool.{cases_lt}
+use Rattle.sdb_base.specs.declared.NodeHash.{NodeHash}
 use Rattle.sdb_io.specs.Faults.{CountsFault, Rose}
-use Rattle.sdb_io.specs.Output.{GetsPrefix, Output}
-use Rattle.sdb_serve.specs.Session.{first_session, play_lines}
+use Rattle.sdb_io.specs.Output.{Gets, GetsPrefix, Output}
+use Rattle.sdb_serve.specs.Session.{first_session}
 use Rattle.sdb_serve.specs.Runs.{FailsTwice, IsRunOf, ended, MayStop, Run, last_line}
 use Rattle.sdb_serve.specs.Statuses.{status_of}
 use Rattle.sdb_serve.specs.inner.Steps.{CountsWhere, HaltsAtSink, HaltsFor, IsAt, IsClosed, IsLastCause, Represents}
 use Rattle.sdb_serve.specs.declared.session.Session.{Session}
 use Rattle.sdb_serve.specs.declared.cause.Cause.{Cause}
-use Rattle.sdb_serve.specs.declared.cause.Cause.TheVariants.{End, BadLine, Source, Memory}
+use Rattle.sdb_serve.specs.declared.cause.Cause.TheVariants.{End, BadLine, Source, Memory, BadNode}
 use Rattle.sdb_serve.specs.declared.cause.Stop.TheVariants as stops
 use Rattle.sdb_serve.specs.declared.status.Status.{Status}
-use Rattle.sdb_serve.specs.declared.status.Status.TheVariants.{Usage, SinkFault}
+use Rattle.sdb_serve.specs.declared.status.Status.TheVariants.{SinkFault, Damaged}
 use Rattle.sdb_serve.proofs.Outputs.{gets_then, prefix_then}
 
 -- the run that has read nothing
@@ -71,78 +72,27 @@ closes cause last input p left old mid new result halts is closed =
       ];
     }
 
--- ---- what a status says of the cause
+-- the last line for a bad node was written, or the sink failed at it
+pub closes_node : (hash : NodeHash) (n : ℕ) (text : List ℕ) (result : Status) (old new : Output) → ((m : ℕ) → last_line (BadNode hash) m ≡ text ∷ [])
+    → ((result ≡ Damaged) × Gets old new (text ∷ [])) ⊎ ((result ≡ SinkFault) × GetsPrefix old new [] text) → IsClosed (BadNode hash) n result old new
+closes_node hash n text result old new line put = elim put [
+  | inl a ↦ inl (a.0, subst (Gets old new) (sym (line n)) a.1)
+  | inr b ↦ inr (b.0, text, line n, b.1)
+]
 
-status_apart : (c d : Cause) → status_of c ≡ status_of d → c ≡ d
-status_apart End End e = refl
-status_apart BadLine BadLine e = refl
-status_apart Source Source e = refl
-status_apart Memory Memory e = refl
-status_apart c d e = absurd cc
+-- ---- what a status says of the cause
 
 pub never_sink : (c : Cause) → status_of c ≡ SinkFault → ⊥
 never_sink End e = absurd cc
 never_sink BadLine e = absurd cc
 never_sink Source e = absurd cc
 never_sink Memory e = absurd cc
-
-pub never_usage : (c : Cause) → status_of c ≡ Usage → ⊥
-never_usage End e = absurd cc
-never_usage BadLine e = absurd cc
-never_usage Source e = absurd cc
-never_usage Memory e = absurd cc
-
--- what is closed by the status of a cause other than want of memory was stopped for it
-pub closed_for : (cause last other : Cause) (n : ℕ) (result : Status) (old new : Output) → IsLastCause cause last → IsClosed last n result old new
-    → result ≡ status_of other → other ≢ Memory → cause ≡ other
-closed_for cause last other n result old new is closed e ne = elim closed [
-  | inl a ↦
-      let same : last ≡ other = status_apart last other (sym a.0 ∙ e) in
-      elim is [
-        | inl l ↦ sym l ∙ same
-        | inr l ↦ absurd (ne (sym same ∙ l.1))
-      ]
-  | inr b ↦ absurd (never_sink other (sym e ∙ b.0))
-]
-
--- a run that stopped for a cause is closed by its status, where it isn't that of the sink nor of want of memory
-pub closed_by : (cause last : Cause) (n : ℕ) (result : Status) (old new : Output) → IsLastCause cause last → IsClosed last n result old new
-    → result ≢ SinkFault → cause ≢ BadLine → result ≡ status_of cause
-closed_by cause last n result old new is closed ne bad = elim closed [
-  | inl a ↦ elim is [
-    | inl l ↦ a.0 ∙ ap status_of l
-    | inr l ↦ absurd (bad l.0)
-  ]
-  | inr b ↦ absurd (ne b.0)
-]
-
-differ : SinkFault ≡ Usage → ⊥
-differ e = absurd cc
-
-pub not_usage : (last : Cause) (n : ℕ) (result : Status) (old new : Output) → IsClosed last n result old new → result ≡ Usage → ⊥
-not_usage last n result old new closed e = elim closed [
-  | inl a ↦ never_usage last (sym a.0 ∙ e)
-  | inr b ↦ differ (sym b.0 ∙ e)
-]
+never_sink (BadNode hash) e = absurd cc
 
 -- ---- counts of faults
 
--- a count where one condition holds just where the other does
-pub counts_as : (P Q : Type 0) (a b : ℕ) → (P → Q) → (Q → P) → CountsWhere P a b → CountsWhere Q a b
-counts_as P Q a b to from counts = (λ q. counts.0 (from q), λ no. counts.1 (λ p. no (to p)))
-
--- at most one fault is counted
-pub counts_once : (cause : Cause) (a b : ℕ) → CountsWhere (stops.Cause cause ≡ stops.Cause Source) a b → (failed : Bool) × CountsFault failed a b
-counts_once Source a b counts = (true, counts.0 refl)
-counts_once End a b counts = (false, counts.1 (λ e. cc))
-counts_once BadLine a b counts = (false, counts.1 (λ e. cc))
-counts_once Memory a b counts = (false, counts.1 (λ e. cc))
-
 first_piece : (x y : List ℕ) → ◌≡◌ {A = List (List ℕ)} (x ∷ []) (y ∷ []) → x ≡ y
 first_piece x y e = cc
-
-not_bad : Source ≡ BadLine → ⊥
-not_bad e = absurd cc
 
 -- where the sink failed at a last line, the source failed before only where that line is for it
 pub failed_twice : (cause last : Cause) (a b : ℕ) (input : List ℕ) (p : Session) (left : Option (List ℕ)) (old mid new : Output) (result : Status)
@@ -151,10 +101,11 @@ pub failed_twice : (cause last : Cause) (a b : ℕ) (input : List ℕ) (p : Sess
 failed_twice End last a b input p left old mid new result counts halts is closed e = inl (counts.1 (λ h. cc))
 failed_twice BadLine last a b input p left old mid new result counts halts is closed e = inl (counts.1 (λ h. cc))
 failed_twice Memory last a b input p left old mid new result counts halts is closed e = inl (counts.1 (λ h. cc))
+failed_twice (BadNode hash) last a b input p left old mid new result counts halts is closed e = inl (counts.1 (λ h. cc))
 failed_twice Source last a b input p left old mid new result counts halts is closed e =
     let same : last ≡ Source = elim is [
       | inl l ↦ l
-      | inr l ↦ absurd (not_bad l.0)
+      | inr l ↦ absurd l.0
     ] in
     elim closed [
       | inl s ↦ absurd (never_sink last (sym s.0 ∙ e))
@@ -178,9 +129,8 @@ a_fault_rose a b e = elim (cases_lt a b) [
 
 -- nothing was read yet
 pub starts : (input : List ℕ) (p : Session) → Represents p first_session → p.lines ≡ 0 → IsAt (at_start input) input p input
-unfolding play_lines
 starts input p represents lines = record {
-  run = record { parts = refl; each = λ k d lt. absurd (omega arith); answers = refl };
+  run = record { parts = refl; each = λ k d lt. absurd (omega arith); answers = (refl, refl) };
   session = represents;
   lines = sym lines;
   more = refl;

@@ -70,7 +70,7 @@ near_taken pending taken clear low few = record {
   ];
 }
 
-no_memory : (left : Option (List ℕ)) (n : ℕ) (pending rest : List ℕ) (r : Run) (input : List ℕ) (p : Session) (old mid : Output) → PieceAnswered 0 pending rest r input p old mid
+pub no_memory : (left : Option (List ℕ)) (n : ℕ) (pending rest : List ℕ) (r : Run) (input : List ℕ) (p : Session) (old mid : Output) → PieceAnswered 0 pending rest r input p old mid
     → HasNoLineFeed pending → length pending ≤ most_in_line → n ≤ most_taken → left ≡ Some (drop n rest) → HaltsFor Memory r input p left old mid
 no_memory left n pending rest r input p old mid first clear low few is =
     let short : length (take n rest) ≤ most_taken = omega (arith, length-take n rest) in

@@ -9,11 +9,21 @@ use Rattle.std.proofs.lemmas.Grind.{common_steps}
 use Rattle.std.proofs.lemmas.Map.Text.{is_eq-slice_cmp}
 use Rattle.sdb_base.specs.declared.Block.{Block}
 use Rattle.sdb_base.specs.declared.BlockId.{BlockId}
+use Rattle.std.specs.FinMap.{entries}
+use Rattle.std.specs.Prelude.{All}
+use Rattle.sdb_base.specs.MapKeeping.{KeepsCommits, keeper_calls_to_fail}
+use Rattle.sdb_base.specs.declared.node.Node.{Node}
+use Rattle.sdb_model.specs.Clear.{Clear}
 use Rattle.sdb_model.specs.State.{State, apply, no_keys}
-use Rattle.sdb_model.specs.Blocks.{chain_of, number_of, same_id, state_of}
-use Rattle.sdb_model.proofs.Counts.{IsAdded, added_genesis, added_on, is_some-option_map, newest_has_number}
+use Rattle.sdb_model.specs.Blocks.{chain_of, same_id, state_of}
+use Rattle.sdb_model.proofs.Counts.{IsAdded, is_some-option_map, newest_has_number}
 use Rattle.sdb_model.proofs.Chains.{chain-none}
+use Rattle.trie_root.specs.Suffixes.{IsEntry}
 use Rattle.sdb_serve.specs.inner.Blocks.{RepresentsBlocks, id_cmp, with_level}
+use Rattle.sdb_serve.specs.inner.Kept.{AddsNodes, IsReliable, IsSameKeeper}
+use Rattle.sdb_serve.proofs.KeptChanges.{LeadsTo}
+use Rattle.sdb_serve.proofs.KeptStates.{clear_before, keeps_states}
+use Rattle.sdb_serve.proofs.NodeFetches.{kept_same}
 use Rattle.sdb_serve.specs.declared.blocks.BlockMap.{BlockMap}
 use Rattle.sdb_serve.specs.declared.blocks.BlockEntry.{BlockEntry}
 
@@ -41,11 +51,11 @@ number_below : (t : Bool) (n k l l' : ℕ) (o : Option ℕ) → cond t (Some n) 
 number_below true n k l l' o e here longer before = let same = same_Some n k e in omega arith
 number_below false n k l l' o e here longer before = let there = before e in omega arith
 
-no_value : {A : Type 0} (o : Option A) → is_some o ≡ false → o ≡ None
+pub no_value : {A : Type 0} (o : Option A) → is_some o ≡ false → o ≡ None
 no_value None e = refl
 no_value (Some x) e = cc
 
-abbrev state_in : List Block → State
+abbrev pub state_in : List Block → State
 state_in chain = apply no_keys (flat_map (λ (b : Block). b.changes) chain)
 
 -- an id has an entry exactly where a block has it
@@ -54,31 +64,53 @@ entry_has_chain m blocks id represents =
     sym (is_some-option_map (λ (k : BlockEntry). k.number) (get id_cmp m.blocks id)) ∙ ap is_some (represents.numbers id)
     ∙ is_some-option_map (λ (chain : List Block). length chain - 1) (chain_of blocks id)
 
-pub represents_added : (m n : BlockMap) (older : List Block) (b : Block) (entry : BlockEntry) → RepresentsBlocks m older → IsAdded older b entry.number entry.state
-    → entry.number ≤ length m.levels.items → Updates id_cmp m.blocks n.blocks b.id (Some entry)
-    → n.levels.items ≡ with_level m.levels.items entry.number (get_or m.levels.items entry.number 0 + 1) → RepresentsBlocks n (b ∷ older)
-represents_added m n older b entry before added at_most found levels =
-    let longer = longer_after m.levels.items entry.number (get_or m.levels.items entry.number 0 + 1) at_most in
-    record {
-      tree = added.tree;
-      numbers = λ id. found_after (λ (k : BlockEntry). k.number) m n b entry found id
-          ∙ ap (cond (same_id b.id id) (Some entry.number)) (before.numbers id) ∙ sym (added.numbers id);
-      states = λ id. found_after (λ (k : BlockEntry). k.state) m n b entry found id
-          ∙ ap (cond (same_id b.id id) (Some entry.state)) (before.states id) ∙ sym (added.states id);
-      levels = λ k. ap (λ xs. get_or xs k 0) levels ∙ level_after m.levels.items entry.number k at_most
-          ∙ ap (λ i. cond (entry.number == k) 1 0 + i) (before.levels k) ∙ sym (added.counts k);
-      below = λ id k e. subst (λ xs. k < length xs) (sym levels) (number_below (same_id b.id id) entry.number k _ _ _ (sym (added.numbers id) ∙ e) longer.0 longer.1 (before.below id k));
-      none = λ e. cc;
-    }
+module _ (m n : BlockMap) (older : List Block) (b : Block) (entry : BlockEntry) (state : State) (nodes : List Node) (before : RepresentsBlocks m older)
+    (added : IsAdded older b entry.number state) (fresh : state_of older b.id ≡ None) (within : All IsEntry (entries state)) where
+  entries_after : (id : BlockId) (s : State) → state_of (b ∷ older) id ≡ Some s → All IsEntry (entries s)
+  entries_after id s e = by_test (same_id b.id id) refl
+    where
+      by_test : (t : Bool) → same_id b.id id ≡ t → All IsEntry (entries s)
+      by_test true is =
+          let same : state ≡ s = same_Some state s (sym (added.states id ∙ ap (λ t. cond t (Some state) (state_of older id)) is) ∙ e) in
+          subst (λ (s : State). All IsEntry (entries s)) same within
+      by_test false is = before.entries_are id s (sym (added.states id ∙ ap (λ t. cond t (Some state) (state_of older id)) is) ∙ e)
+
+  pub represents_added : entry.number ≤ length m.levels.items → Updates id_cmp m.blocks n.blocks b.id (Some entry)
+      → n.levels.items ≡ with_level m.levels.items entry.number (get_or m.levels.items entry.number 0 + 1) → IsReliable n.keeper
+      → (Clear older → LeadsTo m.keeper state entry.root.0 nodes) → AddsNodes m.keeper n.keeper nodes → RepresentsBlocks n (b ∷ older)
+  represents_added at_most found levels reliable leads adds =
+      let longer = longer_after m.levels.items entry.number (get_or m.levels.items entry.number 0 + 1) at_most in
+      record {
+        tree = added.tree;
+        numbers = λ id. found_after (λ (k : BlockEntry). k.number) m n b entry found id
+            ∙ ap (cond (same_id b.id id) (Some entry.number)) (before.numbers id) ∙ sym (added.numbers id);
+        entries_are = entries_after;
+        states = λ clear.
+            let was_clear = clear_before older b state fresh added.states clear in
+            keeps_states older b state fresh added.states m n entry nodes clear (before.states was_clear) (leads was_clear) adds found;
+        reliable = reliable;
+        levels = λ k. ap (λ xs. get_or xs k 0) levels ∙ level_after m.levels.items entry.number k at_most
+            ∙ ap (λ i. cond (entry.number == k) 1 0 + i) (before.levels k) ∙ sym (added.counts k);
+        below = λ id k e. subst (λ xs. k < length xs) (sym levels) (number_below (same_id b.id id) entry.number k _ _ _ (sym (added.numbers id) ∙ e) longer.0 longer.1 (before.below id k));
+        none = λ e. cc;
+      }
+
+pub no_state : (id : BlockId) → state_of [] id ≡ None
+no_state id = ap (option_map state_in) (chain-none id)
 
 -- an empty map represents no blocks, and only those
-pub represents_nothing : (m : BlockMap) → m.blocks.entries ≡ [] → m.levels.items ≡ [] → RepresentsBlocks m []
-represents_nothing m none no_level = record {
+pub represents_nothing : (m : BlockMap) → m.blocks.entries ≡ [] → m.levels.items ≡ [] → keeper_calls_to_fail m.keeper ≡ [] → KeepsCommits m.keeper [] → RepresentsBlocks m []
+represents_nothing m none no_level steady stands = record {
   tree = tt;
   numbers = λ id. ap (λ es. option_map (λ (k : BlockEntry). k.number) (lookup (is_at (id_cmp id)) es)) none
       ∙ sym (ap (option_map (λ (chain : List Block). length chain - 1)) (chain-none id));
-  states = λ id. ap (λ es. option_map (λ (k : BlockEntry). k.state) (lookup (is_at (id_cmp id)) es)) none
-      ∙ sym (ap (option_map state_in) (chain-none id));
+  entries_are = λ id s e. absurd (none-some s (sym (no_state id) ∙ e));
+  states = λ clear. record {
+    roots = λ id k s at e. absurd (none-some s (sym (no_state id) ∙ e));
+    nodes = λ id s e. absurd (none-some s (sym (no_state id) ∙ e));
+    only = λ key c e. absurd (none-some c (sym (stands.nodes key) ∙ e));
+  };
+  reliable = record { steady = steady; commits = []; stands = stands };
   levels = λ n. ap (λ xs. get_or xs n 0) no_level;
   below = λ id n e. absurd (none-some n (sym (ap (option_map (λ (chain : List Block). length chain - 1)) (chain-none id)) ∙ e));
   none = λ _. no_level;
@@ -91,24 +123,22 @@ no_levels m (b ∷ older) represents e =
     let less = represents.below b.id newest.0 newest.1 in
     absurd (omega arith)
 
-added_as : (older : List Block) (b : Block) (n n' : ℕ) (s s' : State) → IsAdded older b n s → n' ≡ n → s' ≡ s → IsAdded older b n' s'
+-- the same blocks and levels over a keeper of the same nodes
+pub represents_same : (m n : BlockMap) (blocks : List Block) → n.blocks ≡ m.blocks → n.levels ≡ m.levels → IsSameKeeper m.keeper n.keeper → RepresentsBlocks m blocks → RepresentsBlocks n blocks
+represents_same m n blocks same_blocks same_levels same r = record {
+  tree = r.tree;
+  numbers = λ id. ap (λ es. option_map (λ (k : BlockEntry). k.number) (get id_cmp es id)) same_blocks ∙ r.numbers id;
+  entries_are = r.entries_are;
+  states = λ clear. let kept = r.states clear in record {
+    roots = λ id k s at e. kept.roots id k s (ap (λ es. get id_cmp es id) (sym same_blocks) ∙ at) e;
+    nodes = λ id s e o c. kept_same m.keeper n.keeper o.bytes same (kept.nodes id s e o c);
+    only = λ key c e. kept.only key c (sym (same.nodes key) ∙ e);
+  };
+  reliable = same.reliable;
+  levels = λ k. ap (λ (v : _). get_or v.items k 0) same_levels ∙ r.levels k;
+  below = λ id k e. let less = r.below id k e in subst (λ (v : _). k < length v.items) (sym same_levels) less;
+  none = λ e. ap (λ (v : _). v.items) same_levels ∙ r.none e;
+}
+
+pub added_as : (older : List Block) (b : Block) (n n' : ℕ) (s s' : State) → IsAdded older b n s → n' ≡ n → s' ≡ s → IsAdded older b n' s'
 added_as older b n n' s s' added e f = subst (λ k. IsAdded older b k s') (sym e) (subst (λ t. IsAdded older b n t) (sym f) added)
-
-pub represents_genesis : (m n : BlockMap) (b : Block) (state : State) → RepresentsBlocks m [] → state ≡ apply no_keys b.changes
-    → Updates id_cmp m.blocks n.blocks b.id (Some (record { number = 0; state = state })) → n.levels.items ≡ with_level m.levels.items 0 1 → RepresentsBlocks n (b ∷ [])
-represents_genesis m n b state represents is found levels =
-    represents_added m n [] b (record { number = 0; state = state }) represents (added_as [] b 0 0 (apply no_keys b.changes) state (added_genesis b) refl is)
-    (omega arith) found (levels ∙ ap (λ xs. with_level m.levels.items 0 (get_or xs 0 0 + 1)) (sym (represents.none refl)))
-
-pub represents_imported : (m n : BlockMap) (blocks : List Block) (b : Block) (parent : BlockEntry) (number : ℕ) (state : State) → RepresentsBlocks m blocks
-    → get id_cmp m.blocks b.parent ≡ Some parent → is_some (get id_cmp m.blocks b.id) ≡ false → number ≡ parent.number + 1 → state ≡ apply parent.state b.changes
-    → Updates id_cmp m.blocks n.blocks b.id (Some (record { number = number; state = state }))
-    → n.levels.items ≡ with_level m.levels.items number (get_or m.levels.items number 0 + 1) → RepresentsBlocks n (b ∷ blocks)
-represents_imported m n blocks b parent number state represents at_parent new is_next is_state found levels =
-    let parent_number : number_of blocks b.parent ≡ Some parent.number = sym (represents.numbers b.parent) ∙ ap (option_map (λ (k : BlockEntry). k.number)) at_parent in
-    let parent_state : state_of blocks b.parent ≡ Some parent.state = sym (represents.states b.parent) ∙ ap (option_map (λ (k : BlockEntry). k.state)) at_parent in
-    let less : parent.number < length m.levels.items = represents.below b.parent parent.number parent_number in
-    let no_chain : chain_of blocks b.id ≡ None = no_value (chain_of blocks b.id) (sym (entry_has_chain m blocks b.id represents) ∙ new) in
-    represents_added m n blocks b (record { number = number; state = state }) represents
-    (added_as blocks b (parent.number + 1) number (apply parent.state b.changes) state (added_on b blocks parent.number parent.state represents.tree no_chain parent_number parent_state) is_next is_state)
-    (omega arith) found levels

@@ -1,10 +1,11 @@
 pub mod Answering
-pub mod Entries
 pub mod Imports
 pub mod Keeping
-pub mod ListedKeys
 pub mod Outputs
 pub mod Lines
+pub mod Stopping
+pub mod ClearLines
+pub mod ClearRuns
 pub mod Running
 pub mod Chunks
 pub mod Halting
@@ -12,4 +13,11 @@ pub mod Closing
 pub mod Verdicts
 pub mod Words
 pub mod Unique
-pub mod Lasting
+pub mod NodeFetches
+pub mod NodeFilters
+pub mod KeptNodes
+pub mod KeptEntries
+pub mod KeptChanges
+pub mod KeptStates
+pub mod KeptReads
+pub mod KeptBlocks

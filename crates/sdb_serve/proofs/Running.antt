@@ -1,17 +1,16 @@
 -- How a run goes on by one line, and by the lines of a piece.
 use Rattle.std.proofs.Common.{◌≡◌, ◌≢◌, ℕ, zero, suc, ◌+◌, ◌<◌, ◌≤◌, List, [], ◌∷◌, ◌++◌, length, drop, get_or, refl, sym, ap, subst, ◌∙◌, arith, inr, Option, Some, append_assoc, append-nil, length-append}
-use Rattle.std.specs.Prelude.{All, slice_range, option_and_then}
-use Rattle.std.specs.Option.{option_map}
+use Rattle.std.specs.Prelude.{All, slice_range}
 use Rattle.std.specs.List.{flat_map}
 use Rattle.std.proofs.lemmas.Grind.{flat_map-append}
 use Rattle.std.proofs.lemmas.List.{length-drop}
 use Rattle.std.proofs.lemmas.List.Elements.{All-append}
 use Rattle.sdb_io.specs.Output.{Gets, GetsPrefix, Output}
 use Rattle.sdb_script.specs.Grammar.{most_in_line}
-use Rattle.sdb_script.proofs.Within.{map_some, then_some}
 use Rattle.sdb_serve.proofs.Lines.{begins_at, rest_begins}
 use Rattle.sdb_serve.proofs.Outputs.{gets_then, prefix_then}
-use Rattle.sdb_serve.specs.Session.{SessionState, first_session, play_line, play_lines}
+use Rattle.sdb_serve.specs.Playing.{MayPlay, MayPlayAll}
+use Rattle.sdb_serve.specs.Session.{SessionState, first_session}
 use Rattle.sdb_serve.specs.Runs.{BeginsWith, HasNoLineFeed, IsNear, IsRun, Run, Waits, ended, most_taken}
 use Rattle.sdb_serve.specs.inner.Steps.{Halts, LineAnswered, LineStops, PieceAnswered, Represents}
 use Rattle.sdb_serve.specs.declared.session.Session.{Session}
@@ -23,28 +22,24 @@ some_is x y e = cc
 
 -- ---- one line more
 
-abbrev pub Played : Type 0
-Played = List (List ℕ) × SessionState
-
-pub played_next : (s : SessionState) (lines : List (List ℕ)) (line : List ℕ) (out more : List (List ℕ)) (at next : SessionState) → play_lines s lines ≡ Some (out, at)
-    → play_line at line ≡ Some (more, next) → play_lines s (lines ++ line ∷ []) ≡ Some (out ++ more, next)
-unfolding play_lines
-played_next s [] line out more at next e f =
-    let pair = some_is ([], s) (out, at) e in
-    let same : s ≡ at = ap (λ (p : Played). p.1) pair in
-    let none : [] ≡ out = ap (λ (p : Played). p.0) pair in
-    rw (← none, same, f, append-nil more) refl
-played_next s (l ∷ ls) line out more at next e f =
-    let first = then_some (λ (a : Played). option_map (λ (b : Played). (a.0 ++ b.0, b.1)) (play_lines a.1 ls)) (play_line s l) (out, at) e in
-    let x : Played = first.0 in
-    let others = map_some (λ (b : Played). (x.0 ++ b.0, b.1)) (play_lines x.1 ls) (out, at) first.2 in
-    let b : Played = others.0 in
-    let out_is : x.0 ++ b.0 ≡ out = ap (λ (p : Played). p.0) others.2 in
-    let at_is : b.1 ≡ at = ap (λ (p : Played). p.1) others.2 in
-    let rest : play_lines x.1 (ls ++ line ∷ []) ≡ Some (b.0 ++ more, next) = played_next x.1 ls line b.0 more b.1 next others.1 (rw at_is f) in
-    ap (λ (o : Option Played). option_and_then (λ (a : Played). option_map (λ (b' : Played). (a.0 ++ b'.0, b'.1)) (play_lines a.1 (ls ++ line ∷ []))) o) first.1
-    ∙ ap (λ (o : Option Played). option_map (λ (b' : Played). (x.0 ++ b'.0, b'.1)) o) rest
-    ∙ ap (λ (t : List (List ℕ)). Some (t, next)) (sym (append_assoc x.0 b.0 more) ∙ ap (λ (t : List (List ℕ)). t ++ more) out_is)
+played_next : (s : SessionState) (lines : List (List ℕ)) (line : List ℕ) (out more : List (List ℕ)) (at next : SessionState) → MayPlayAll s lines out at
+    → MayPlay at line more next → MayPlayAll s (lines ++ line ∷ []) (out ++ more) next
+played_next s [] line out more at next e f = (
+  more,
+  [],
+  next,
+  subst (λ (t : SessionState). MayPlay t line more next) e.1 f,
+  (refl, refl),
+  rw (e.0, append-nil more) refl,
+)
+played_next s (l ∷ ls) line out more at next e f = (
+  e.0,
+  e.1 ++ more,
+  e.2,
+  e.3,
+  played_next e.2 ls line e.1 more at next e.4 f,
+  ap (λ (t : List (List ℕ)). t ++ more) e.5 ∙ append_assoc e.0 e.1 more,
+)
 
 abbrev pub with_line : Run → List ℕ → List (List ℕ) → SessionState → List ℕ → Run
 with_line r line replies next rest = record { lines = r.lines ++ line ∷ []; replies = r.replies ++ replies; session = next; more = rest }
@@ -58,7 +53,7 @@ single line h (suc k) d lt = absurd (omega arith)
 
 -- a run goes on by a line that is answered
 pub goes_on : (r : Run) (input line rest : List ℕ) (replies : List (List ℕ)) (next : SessionState) → IsRun r input → BeginsWith r.more line rest
-    → play_line r.session line ≡ Some (replies, next) → IsRun (with_line r line replies next rest) input
+    → MayPlay r.session line replies next → IsRun (with_line r line replies next rest) input
 goes_on r input line rest replies next run begins e = record {
   parts = run.parts ∙ ap (λ (m : List ℕ). flat_map ended r.lines ++ m) begins.parts ∙ line_joins r.lines line rest;
   each = All-append HasNoLineFeed r.lines (line ∷ []) run.each (single line begins.one_line);

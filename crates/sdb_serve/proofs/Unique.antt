@@ -1,12 +1,11 @@
 -- An input is cut into lines in one way, so that no run goes past the first bad line.
 use Rattle.std.proofs.Common.{◌≡◌, ◌≢◌, ℕ, zero, suc, List, [], ◌∷◌, ◌++◌, length, refl, sym, ap, subst, ◌∙◌, arith, inl, inr, Option, Some, None, append_assoc, length-append}
 use Rattle.std.specs.Prelude.{◌⊎◌, All}
-use Rattle.std.specs.Option.{option_map}
 use Rattle.std.specs.List.{flat_map}
-use Rattle.sdb_serve.specs.Session.{SessionState, first_session, play_line, play_lines}
+use Rattle.sdb_serve.specs.Playing.{MayPlay, MayPlayAll}
+use Rattle.sdb_serve.specs.Session.{SessionState, first_session, play_line, reply_lines}
 use Rattle.sdb_serve.specs.Runs.{BeginsWith, HasNoLineFeed, IsBad, IsFirstBad, IsRun, IsScript, Run, ended}
-use Rattle.sdb_script.proofs.Within.{map_some, then_some}
-use Rattle.sdb_serve.proofs.Running.{Played, some_is}
+use Rattle.sdb_serve.proofs.Running.{some_is}
 
 clear_tail : (x : ℕ) (xs : List ℕ) → HasNoLineFeed (x ∷ xs) → HasNoLineFeed xs
 clear_tail x xs h k d lt = h (suc k) d (omega arith)
@@ -75,36 +74,25 @@ each_tail l ls h k d lt = h (suc k) d (omega arith)
 regroup : (l : List ℕ) (ls : List (List ℕ)) (m : List ℕ) → flat_map ended (l ∷ ls) ++ m ≡ l ++ 10 ∷ (flat_map ended ls ++ m)
 regroup l ls m = append_assoc (ended l) (flat_map ended ls) m ∙ append_assoc l (10 ∷ []) (flat_map ended ls ++ m)
 
--- what the first of several lines did
-first_played : (s : SessionState) (l : List ℕ) (ls : List (List ℕ)) (out : List (List ℕ)) (at : SessionState) → play_lines s (l ∷ ls) ≡ Some (out, at)
-    → (x : Played) × (play_line s l ≡ Some x) × (y : Played) × (play_lines x.1 ls ≡ Some y) × (y.1 ≡ at)
-unfolding play_lines
-first_played s l ls out at e =
-    let first = then_some (λ (a : Played). option_map (λ (b : Played). (a.0 ++ b.0, b.1)) (play_lines a.1 ls)) (play_line s l) (out, at) e in
-    let x : Played = first.0 in
-    let others = map_some (λ (b : Played). (x.0 ++ b.0, b.1)) (play_lines x.1 ls) (out, at) first.2 in
-    (x, first.1, others.0, others.1, ap (λ (p : Played). p.1) others.2)
-
-last_played : (s : SessionState) (out : List (List ℕ)) (at : SessionState) → play_lines s [] ≡ Some (out, at) → s ≡ at
-unfolding play_lines
-last_played s out at e = ap (λ (p : Played). p.1) (some_is ([], s) (out, at) e)
+-- what is known after a line is determined by what was known and by the line
+one_next : (s : SessionState) (l k : List ℕ) (out more : List (List ℕ)) (next other : SessionState) → l ≡ k → MayPlay s l out next → MayPlay s k more other → next ≡ other
+one_next s l k out more next other e f g =
+    let pair = some_is (reply_lines f.model, next) (reply_lines g.model, other) (sym f.played ∙ ap (play_line s) e ∙ g.played) in
+    ap (λ (p : List (List ℕ) × SessionState). p.1) pair
 
 -- no run goes further than one that is stuck
 no_further : (s : SessionState) (ls ks : List (List ℕ)) (m n : List ℕ) (o p : List (List ℕ)) (at end : SessionState) → All HasNoLineFeed ls → All HasNoLineFeed ks
-    → flat_map ended ls ++ m ≡ flat_map ended ks ++ n → play_lines s ls ≡ Some (o, at) → play_lines s ks ≡ Some (p, end) → Stuck at m
+    → flat_map ended ls ++ m ≡ flat_map ended ks ++ n → MayPlayAll s ls o at → MayPlayAll s ks p end → Stuck at m
     → (extra : List (List ℕ)) × (ls ≡ ks ++ extra) × (n ≡ flat_map ended extra ++ m)
 no_further s ls [] m n o p at end h g e f q stuck = (ls, refl, sym e)
 no_further s [] (k ∷ ks) m n o p at end h g e f q stuck =
-    let first = first_played s k ks p end q in
-    absurd (stuck_line s m k (flat_map ended ks ++ n) first.0.0 first.0.1 (subst (λ (t : SessionState). Stuck t m) (sym (last_played s o at f)) stuck) (each_head k ks g)
-    (e ∙ regroup k ks n) first.1)
+    absurd (stuck_line s m k (flat_map ended ks ++ n) (reply_lines q.3.model) q.2 (subst (λ (t : SessionState). Stuck t m) f.1 stuck) (each_head k ks g)
+    (e ∙ regroup k ks n) q.3.played)
 no_further s (l ∷ ls) (k ∷ ks) m n o p at end h g e f q stuck =
-    let one = first_played s l ls o at f in
-    let two = first_played s k ks p end q in
     let same = first_line_same l k (flat_map ended ls ++ m) (flat_map ended ks ++ n) (each_head l ls h) (each_head k ks g) (sym (regroup l ls m) ∙ e ∙ regroup k ks n) in
-    let next : one.0 ≡ two.0 = some_is one.0 two.0 (sym one.1 ∙ ap (play_line s) same.0 ∙ two.1) in
-    let rest : play_lines one.0.1 ks ≡ Some (two.2.0, two.2.1) = subst (λ (x : Played). play_lines x.1 ks ≡ Some (two.2.0, two.2.1)) (sym next) two.3 in
-    let more = no_further one.0.1 ls ks m n one.2.0 two.2.0 one.2.1 two.2.1 (each_tail l ls h) (each_tail k ks g) same.1 one.3 rest (subst (λ (t : SessionState). Stuck t m) (sym one.4) stuck) in
+    let next : f.2 ≡ q.2 = one_next s l k f.0 q.0 f.2 q.2 same.0 f.3 q.3 in
+    let rest : MayPlayAll f.2 ks q.1 end = subst (λ (t : SessionState). MayPlayAll t ks q.1 end) (sym next) q.4 in
+    let more = no_further f.2 ls ks m n f.1 q.1 at end (each_tail l ls h) (each_tail k ks g) same.1 f.4 rest stuck in
     (more.0, ap (λ (t : List (List ℕ)). l ∷ t) more.1 ∙ ap (λ (t : List ℕ). t ∷ (ks ++ more.0)) same.0, more.2)
 
 further : (r q : Run) (input : List ℕ) → IsRun r input → IsRun q input → IsBad r → (extra : List (List ℕ)) × (r.lines ≡ q.lines ++ extra) × (q.more ≡ flat_map ended extra ++ r.more)

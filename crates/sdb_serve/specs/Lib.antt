@@ -1,5 +1,7 @@
 pub mod Jobs
+pub mod Replies
 pub mod Session
+pub mod Playing
 pub mod Runs
 pub mod Statuses
 pub mod inner

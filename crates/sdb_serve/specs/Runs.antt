@@ -2,12 +2,14 @@
 use Rattle.std.specs.Prelude.{◌≡◌, ◌≢◌, ◌≤◌, ◌⊎◌, ℕ, ◌+◌, List, [], ◌∷◌, ◌++◌, length, codes, All, Option, Some, None}
 use Rattle.std.specs.List.{flat_map}
 use Rattle.std.specs.Fmt.{decimal}
+use Rattle.hex.specs.Hex.{encode_lower}
 use Rattle.sdb_io.specs.Output.{Gets, GetsPrefix, Output}
 use Rattle.sdb_script.specs.Grammar.{most_in_line}
-use Rattle.sdb_serve.specs.Session.{SessionState, first_session, play_line, play_lines}
+use Rattle.sdb_serve.specs.Playing.{MayMeetBadNode, MayPlay, MayPlayAll}
+use Rattle.sdb_serve.specs.Session.{SessionState, first_session, play_line}
 use Rattle.sdb_serve.specs.Statuses.{status_of}
 use Rattle.sdb_serve.specs.declared.cause.Cause.{Cause}
-use Rattle.sdb_serve.specs.declared.cause.Cause.TheVariants.{End, BadLine, Source, Memory}
+use Rattle.sdb_serve.specs.declared.cause.Cause.TheVariants.{End, BadLine, Source, Memory, BadNode}
 use Rattle.sdb_serve.specs.declared.status.Status.{Status}
 use Rattle.sdb_serve.specs.declared.status.Status.TheVariants.{SinkFault}
 
@@ -34,7 +36,7 @@ pub record Run : Type 0 where
 pub record IsRun (r : Run) (input : List ℕ) : Type 0 where
   pub parts : input ≡ flat_map ended r.lines ++ r.more
   pub each : All HasNoLineFeed r.lines
-  pub answers : play_lines first_session r.lines ≡ Some (r.replies, r.session)
+  pub answers : MayPlayAll first_session r.lines r.replies r.session
 
 -- the text begins with this line
 pub record BeginsWith (text line rest : List ℕ) : Type 0 where
@@ -44,12 +46,16 @@ pub record BeginsWith (text line rest : List ℕ) : Type 0 where
 -- the next line is answered, and this is its reply line
 abbrev pub IsAnswered : Run → List ℕ → Type 0
 IsAnswered r reply = (line rest : List ℕ) × (next : SessionState) × BeginsWith r.more line rest
-    × (play_line r.session line ≡ Some (reply ∷ [], next))
+    × MayPlay r.session line (reply ∷ []) next
 
 -- the next line isn't answered, or the input ends within it
 abbrev pub IsBad : Run → Type 0
 IsBad r = ((line rest : List ℕ) × BeginsWith r.more line rest × (play_line r.session line ≡ None))
     ⊎ (HasNoLineFeed r.more × (r.more ≢ []))
+
+-- the next line is answered by the model, and may meet bytes that are no node
+abbrev pub IsAtBadNode : Run → Type 0
+IsAtBadNode r = (line rest : List ℕ) × BeginsWith r.more line rest × MayMeetBadNode r.session line
 
 -- ---- what was taken of the input
 
@@ -75,6 +81,7 @@ MayStop End left r = r.more ≡ []
 MayStop BadLine left r = IsBad r
 MayStop Source left r = Waits HasNoLineFeed left r
 MayStop Memory left r = Unit {0}
+MayStop (BadNode hash) left r = IsAtBadNode r
 
 -- the last line for a cause, one or none, where so many lines were answered: the next one is the bad one
 abbrev pub last_line : Cause → ℕ → List (List ℕ)
@@ -82,6 +89,7 @@ last_line End n = []
 last_line BadLine n = ended (codes "stop 3 line " ++ decimal (n + 1)) ∷ []
 last_line Source n = ended (codes "stop 4") ∷ []
 last_line Memory n = ended (codes "stop 11") ∷ []
+last_line (BadNode hash) n = ended (codes "stop 9 node " ++ encode_lower hash.0) ∷ []
 
 -- the line of other words than those of the table
 abbrev pub usage_line : List ℕ
@@ -126,3 +134,7 @@ IsScript input = (r : Run) × IsRun r input × (r.more ≡ [])
 -- the line of this number, from 1, is the first that isn't answered, or the one within which the input ends
 abbrev pub IsFirstBad : List ℕ → ℕ → Type 0
 IsFirstBad input n = (r : Run) × IsRun r input × IsBad r × (n ≡ length r.lines + 1)
+
+-- some line of the input that the model answers may meet bytes that are no node: two different nodes have one hash
+abbrev pub MeetsBadNode : List ℕ → Type 0
+MeetsBadNode input = (r : Run) × IsRun r input × IsAtBadNode r

@@ -3,7 +3,7 @@ use Rattle.std.specs.Prelude.{ℕ}
 use Rattle.sdb_serve.specs.declared.cause.Cause.{Cause}
 use Rattle.sdb_serve.specs.declared.cause.Cause.TheVariants as causes
 use Rattle.sdb_serve.specs.declared.status.Status.{Status}
-use Rattle.sdb_serve.specs.declared.status.Status.TheVariants.{Done, Usage, Script, SourceFault, SinkFault, NoMemory}
+use Rattle.sdb_serve.specs.declared.status.Status.TheVariants.{Done, Usage, Script, SourceFault, SinkFault, NoMemory, Damaged}
 
 -- the status of a run that stopped for this cause, unless the sink failed
 abbrev pub status_of : Cause → Status
@@ -11,6 +11,7 @@ status_of causes.End = Done
 status_of causes.BadLine = Script
 status_of causes.Source = SourceFault
 status_of causes.Memory = NoMemory
+status_of (causes.BadNode hash) = Damaged
 
 -- the exit status of a process
 abbrev pub status_code : Status → ℕ
@@ -19,4 +20,5 @@ status_code Usage = 2
 status_code Script = 3
 status_code SourceFault = 4
 status_code SinkFault = 5
+status_code Damaged = 9
 status_code NoMemory = 11

@@ -1,11 +1,13 @@
-ghost use Rattle.std.specs.Prelude.{◌≡◌, ◌↔◌, List, [], ◌∷◌, slice_index, All, IsTrue, IfOk, OnOk, OnErr, Some};
+ghost use Rattle.std.specs.Prelude.{◌≡◌, ◌↔◌, List, [], ◌∷◌, slice_index, IsTrue, IfErr, IfOk, OnOk, OnErr, Some};
 ghost use Rattle.sdb_base.specs.declared.Block.{Block};
-ghost use Rattle.sdb_model.specs.Blocks.{state_of};
-ghost use Rattle.sdb_model.specs.Limits.{ChangeIsWithin};
-ghost use Rattle.sdb_serve.specs.Jobs.{after_import, import_reply, list_reply, next_reply, read_reply, root_reply};
+ghost use Rattle.sdb_model.specs.Clear.{Clear};
+ghost use Rattle.sdb_model.specs.declared.task.Task.TheVariants as tasks;
+ghost use Rattle.sdb_script.specs.LineTexts.{IsBlock};
+ghost use Rattle.sdb_serve.specs.Jobs.{after_import};
+ghost use Rattle.sdb_serve.specs.Replies.{MayAnswer};
 
-use crate::state_map::StateMap;
-use sdb_base::{Block, BlockId, Bytes, OutOfMemory, TryCopy};
+use crate::nodes::{NodeFault, changed, created, keep, key_above, keys_under, value_under};
+use sdb_base::{Block, BlockId, Bytes, MapKeeper, NodeHash, OutOfMemory};
 use sdb_model::{Refusal, Reply};
 use std::alloc::Global;
 use std::collections::BTreeMap;
@@ -13,24 +15,27 @@ use std::collections::BTreeMap;
 // at most so many blocks have one number
 const MOST_SIBLINGS: u32 = 32;
 
-/// A block's number and state.
-#[derive(Drop)]
+/// A block's number and the root of its state.
+#[derive(Clone, Copy)]
 pub(crate) struct BlockEntry {
     number: u64,
-    state: StateMap,
+    root: NodeHash,
 }
 
-/// The accepted blocks, each with its number and its whole state.
+/// The accepted blocks, each with its number and its root, and the stored nodes of their states.
 #[derive(Drop)]
 pub(crate) struct BlockMap {
     alloc: Global,
     blocks: BTreeMap<BlockId, BlockEntry>,
     // how many blocks have each number
     levels: Vec<u32>,
+    keeper: MapKeeper,
 }
 
 impl BlockMap {
-    ghost use Rattle.std.specs.BTreeMap.{IsUnchanged, Updates};
+    ghost use Rattle.std.specs.BTreeMap.{IsUnchanged, Updates, get};
+    ghost use Rattle.std.specs.Option.{option_map};
+    ghost use Rattle.sdb_serve.specs.declared.blocks.BlockEntry.{BlockEntry};
     ghost use Rattle.sdb_serve.specs.inner.Blocks.{RepresentsBlocks, id_cmp, with_level};
 
     /// No blocks.
@@ -41,6 +46,7 @@ impl BlockMap {
             alloc,
             blocks: BTreeMap::new(alloc),
             levels: Vec::new(alloc),
+            keeper: MapKeeper::new(alloc),
         }
     }
 
@@ -51,78 +57,91 @@ impl BlockMap {
         self.levels.is_empty()
     }
 
-    /// Accepts genesis, where no block was accepted. An `Err` leaves the blocks as they were.
+    /// Accepts genesis, where no block was accepted. After an `Err` the blocks aren't used again.
     pub(crate) fn genesis(&mut self, block: Block) -> Result<(), OutOfMemory>
-        requires { All ChangeIsWithin block.changes }
-        ensures ok { RepresentsBlocks self.old [] → OnOk result (RepresentsBlocks self.new (block ∷ [])) }
-        ensures err { (blocks : List Block) → RepresentsBlocks self.old blocks
-            → OnErr result (RepresentsBlocks self.new blocks) }
+        requires { IsBlock block }
+        ensures { RepresentsBlocks self.old [] → OnOk result (RepresentsBlocks self.new (block ∷ [])) }
     {
-        let none = StateMap::new(self.alloc);
-        let state = none.with_changes(block.changes)?;
-        self.add_entry(block.id, BlockEntry { number: 0, state }, 1)
+        let delta = created(self.alloc, block.changes)?;
+        let root = keep(self.alloc, &mut self.keeper, delta)?;
+        self.add_entry(block.id, BlockEntry { number: 0, root }, 1)
+    }
+
+    /// The root of a block.
+    fn root_of(&self, id: &BlockId) -> Option<NodeHash>
+        ensures { result ≡ option_map (λ (k : BlockEntry). k.root) (get id_cmp self.now.blocks id.now) }
+    {
+        match self.blocks.get(id) {
+            Some(entry) => Some(entry.root),
+            None => None,
+        }
     }
 
     /// The reply to a read of a key in a block's state.
-    pub(crate) fn read(&self, id: &BlockId, key: &Bytes) -> Result<Reply, OutOfMemory>
-        ensures { (blocks : List Block) → RepresentsBlocks self.now blocks
-            → IfOk result (λ reply. reply ≡ read_reply (state_of blocks id.now) key.now) }
+    pub(crate) fn read(&mut self, id: BlockId, key: Bytes) -> Result<Reply, NodeFault>
+        ensures may { (blocks : List Block) → RepresentsBlocks self.old blocks → IfOk result (MayAnswer blocks (tasks.Read id key)) }
+        ensures after { (blocks : List Block) → RepresentsBlocks self.old blocks → OnOk result (RepresentsBlocks self.new blocks) }
+        ensures sound { (blocks : List Block) → RepresentsBlocks self.old blocks → Clear blocks → IfErr result (λ e. e ≡ NodeFault.OutOfMemory) }
     {
-        let Some(entry) = self.blocks.get(id) else {
+        let Some(root) = self.root_of(&id) else {
             return Ok(Reply::Refused(Refusal::UnknownBlock));
         };
-        match entry.state.get(key) {
-            Some(value) => Ok(Reply::Value(value.copy(self.alloc)?)),
+        match value_under(self.alloc, &mut self.keeper, root, key)? {
+            Some(value) => Ok(Reply::Value(value)),
             None => Ok(Reply::Nothing),
         }
     }
 
     /// The reply to a search for the least key above a key in a block's state.
-    pub(crate) fn next(&self, id: &BlockId, key: &Bytes) -> Result<Reply, OutOfMemory>
-        ensures { (blocks : List Block) → RepresentsBlocks self.now blocks
-            → IfOk result (λ reply. reply ≡ next_reply (state_of blocks id.now) key.now) }
+    pub(crate) fn next(&mut self, id: BlockId, key: Bytes) -> Result<Reply, NodeFault>
+        ensures may { (blocks : List Block) → RepresentsBlocks self.old blocks → IfOk result (MayAnswer blocks (tasks.Next id key)) }
+        ensures after { (blocks : List Block) → RepresentsBlocks self.old blocks → OnOk result (RepresentsBlocks self.new blocks) }
+        ensures sound { (blocks : List Block) → RepresentsBlocks self.old blocks → Clear blocks → IfErr result (λ e. e ≡ NodeFault.OutOfMemory) }
     {
-        let Some(block) = self.blocks.get(id) else {
+        let Some(root) = self.root_of(&id) else {
             return Ok(Reply::Refused(Refusal::UnknownBlock));
         };
-        match block.state.next(self.alloc, key)? {
+        match key_above(self.alloc, &mut self.keeper, root, key)? {
             Some(next) => Ok(Reply::Key(next)),
             None => Ok(Reply::Nothing),
         }
     }
 
     /// The reply that lists the keys with a prefix in a block's state.
-    pub(crate) fn list(&self, id: &BlockId, prefix: &Bytes) -> Result<Reply, OutOfMemory>
-        ensures { (blocks : List Block) → RepresentsBlocks self.now blocks
-            → IfOk result (λ reply. reply ≡ list_reply (state_of blocks id.now) prefix.now) }
+    pub(crate) fn list(&mut self, id: BlockId, prefix: Bytes) -> Result<Reply, NodeFault>
+        ensures may { (blocks : List Block) → RepresentsBlocks self.old blocks → IfOk result (MayAnswer blocks (tasks.List id prefix)) }
+        ensures after { (blocks : List Block) → RepresentsBlocks self.old blocks → OnOk result (RepresentsBlocks self.new blocks) }
+        ensures sound { (blocks : List Block) → RepresentsBlocks self.old blocks → Clear blocks → IfErr result (λ e. e ≡ NodeFault.OutOfMemory) }
     {
-        match self.blocks.get(id) {
-            Some(entry) => Ok(Reply::Listed(entry.state.keys_with(self.alloc, prefix)?)),
+        match self.root_of(&id) {
+            Some(root) => Ok(Reply::Listed(keys_under(
+                self.alloc,
+                &mut self.keeper,
+                root,
+                prefix,
+            )?)),
             None => Ok(Reply::Refused(Refusal::UnknownBlock)),
         }
     }
 
     /// The reply that is the root of a block's state.
-    pub(crate) fn root(&self, id: &BlockId) -> Result<Reply, OutOfMemory>
-        ensures { (blocks : List Block) → RepresentsBlocks self.now blocks
-            → IfOk result (λ reply. reply ≡ root_reply (state_of blocks id.now)) }
+    pub(crate) fn root(&self, id: &BlockId) -> Reply
+        ensures { (blocks : List Block) → RepresentsBlocks self.now blocks → MayAnswer blocks (tasks.Root id.now) result }
     {
-        match self.blocks.get(id) {
-            Some(entry) => Ok(Reply::Root(entry.state.root(self.alloc)?)),
-            None => Ok(Reply::Refused(Refusal::UnknownBlock)),
+        match self.root_of(id) {
+            Some(root) => Reply::Root(root),
+            None => Reply::Refused(Refusal::UnknownBlock),
         }
     }
 
-    /// The reply to an import of a block, which is then accepted unless it is refused. An `Err` leaves the blocks as
-    /// they were.
-    pub(crate) fn import(&mut self, block: Block) -> Result<Reply, OutOfMemory>
-        requires { All ChangeIsWithin block.changes }
-        ensures answer { (blocks : List Block) → RepresentsBlocks self.old blocks
-            → IfOk result (λ reply. reply ≡ import_reply blocks block) }
+    /// The reply to an import of a block, which is then accepted unless it is refused. After an `Err` the blocks aren't used
+    /// again.
+    pub(crate) fn import(&mut self, block: Block) -> Result<Reply, NodeFault>
+        requires { IsBlock block }
+        ensures may { (blocks : List Block) → RepresentsBlocks self.old blocks → IfOk result (MayAnswer blocks (tasks.Import block)) }
         ensures after { (blocks : List Block) → RepresentsBlocks self.old blocks
             → IfOk result (λ reply. RepresentsBlocks self.new (after_import blocks block reply)) }
-        ensures err { (blocks : List Block) → RepresentsBlocks self.old blocks
-            → OnErr result (RepresentsBlocks self.new blocks) }
+        ensures sound { (blocks : List Block) → RepresentsBlocks self.old blocks → Clear blocks → IfErr result (λ e. e ≡ NodeFault.OutOfMemory) }
     {
         let Some(parent) = self.blocks.get(&block.parent) else {
             return Ok(Reply::Refused(Refusal::UnknownParent));
@@ -130,14 +149,16 @@ impl BlockMap {
         if self.blocks.contains_key(&block.id) {
             return Ok(Reply::Refused(Refusal::AlreadyExists));
         }
+        let BlockEntry { number, root } = *parent;
         // there are more levels than this number, so that the sum is exact
-        let number = parent.number.saturating_add(1);
+        let number = number.saturating_add(1);
         let siblings = self.siblings_at(number);
         if siblings >= MOST_SIBLINGS {
             return Ok(Reply::Refused(Refusal::TooManySiblings { number }));
         }
-        let state = parent.state.with_changes(block.changes)?;
-        self.add_entry(block.id, BlockEntry { number, state }, siblings + 1)?;
+        let delta = changed(self.alloc, &mut self.keeper, root, block.changes)?;
+        let root = keep(self.alloc, &mut self.keeper, delta)?;
+        self.add_entry(block.id, BlockEntry { number, root }, siblings + 1)?;
         Ok(Reply::Imported(number))
     }
 
@@ -158,6 +179,7 @@ impl BlockMap {
     fn add_entry(&mut self, id: BlockId, entry: BlockEntry, count: u32) -> Result<(), OutOfMemory>
         ensures added { OnOk result (Updates id_cmp self.old.blocks self.new.blocks id (Some entry)) }
         ensures levels { OnOk result (self.new.levels.items ≡ with_level self.old.levels.items entry.number count) }
+        ensures keeper { self.new.keeper ≡ self.old.keeper }
         ensures err { OnErr result (IsUnchanged self.old.blocks self.new.blocks
             × (self.new.levels.items ≡ self.old.levels.items)) }
     {

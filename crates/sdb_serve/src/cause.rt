@@ -1,6 +1,7 @@
 ghost use Rattle.std.specs.Prelude.{◌≡◌};
 
 use crate::session::PlayFault;
+use sdb_base::NodeHash;
 use sdb_io::SinkFault;
 
 /// Why a run stops while its sink takes all that is written.
@@ -14,6 +15,11 @@ pub enum Cause {
     Source,
     /// There was no memory.
     Memory,
+    /// What is kept under this hash is no node that hangs where it is wanted, or nothing is.
+    BadNode {
+        /// The hash.
+        hash: NodeHash,
+    },
 }
 
 /// Why no further line is answered: a cause, or the sink failed at a reply.
@@ -33,6 +39,7 @@ impl From<PlayFault> for Stop {
         match fault {
             PlayFault::NotAnswered => Stop::Cause(Cause::BadLine),
             PlayFault::OutOfMemory => Stop::Cause(Cause::Memory),
+            PlayFault::BadNode { hash } => Stop::Cause(Cause::BadNode { hash }),
         }
     }
 }

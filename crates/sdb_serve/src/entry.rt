@@ -1,7 +1,7 @@
 ghost use Rattle.std.specs.Prelude.{◌≡◌, ◌≢◌, ◌⊎◌, ◌↔◌, ◌<◌, ◌≤◌, ◌^◌, ℕ, Bool, true, false, List, [], ◌∷◌, Some, IsTrue, IfOk, codes};
 ghost use Rattle.sdb_io.specs.Faults.{CountsFault, Rose};
 ghost use Rattle.sdb_io.specs.Output.{Gets, GetsPrefix};
-ghost use Rattle.sdb_serve.specs.Runs.{FailsTwice, IsFirstBad, IsRunOf, IsScript, last_line, script_words, usage_line};
+ghost use Rattle.sdb_serve.specs.Runs.{FailsTwice, IsFirstBad, IsRunOf, MeetsBadNode, IsScript, last_line, script_words, usage_line};
 ghost use Rattle.sdb_serve.specs.Statuses.{status_of};
 ghost use Rattle.sdb_serve.specs.inner.Steps.{CountsWhere, IsClosed, IsLastCause};
 
@@ -9,7 +9,7 @@ use crate::cause::{Cause, Stop};
 use crate::serve::read_lines;
 use crate::session::Session;
 use crate::status::Status;
-use sdb_base::Words;
+use sdb_base::{NodeHash, Words};
 use sdb_io::{Sink, Source};
 use std::alloc::{AllocError, Global};
 
@@ -32,6 +32,16 @@ fn stop_line(alloc: Global, lines: u64) -> Result<Vec<u8>, AllocError>
     let digits = number.to_string(alloc)?;
     let mut text = Vec::from_slice(alloc, b"stop 3 line ")?;
     text.extend_from_slice(digits.as_bytes())?;
+    text.push(b'\n')?;
+    Ok(text)
+}
+
+/// The last line for a node that is none.
+fn node_line(alloc: Global, hash: &NodeHash) -> Result<Vec<u8>, AllocError>
+    ensures { IfOk result (λ text. (n : ℕ) → last_line (Cause.BadNode hash.now) n ≡ text.items ∷ []) }
+{
+    let mut text = Vec::from_slice(alloc, b"stop 9 node ")?;
+    text.extend_from_slice(hex::encode(alloc, &hash.0)?.as_bytes())?;
     text.push(b'\n')?;
     Ok(text)
 }
@@ -64,6 +74,10 @@ fn close<K: Sink>(alloc: Global, sink: &mut K, cause: Cause, lines: u64) -> Stat
         },
         Cause::Source => put_last(sink, Status::SourceFault, b"stop 4\n"),
         Cause::Memory => put_last(sink, Status::NoMemory, b"stop 11\n"),
+        Cause::BadNode { hash } => match node_line(alloc, &hash) {
+            Ok(text) => put_last(sink, Status::Damaged, text.as_slice()),
+            Err(_) => put_last(sink, Status::NoMemory, b"stop 11\n"),
+        },
     }
 }
 
@@ -129,12 +143,12 @@ pub fn run<S: Source, K: Sink>(alloc: Global, words: &Words, source: &mut S, sin
         → IsScript input
         → ¬ Rose (S.fault_count source.old) (S.fault_count source.new)
         → ¬ Rose (K.fault_count sink.old) (K.fault_count sink.new)
-        → (result ≡ Status.Done) ⊎ (result ≡ Status.NoMemory) }
+        → (result ≡ Status.Done) ⊎ ((result ≡ Status.NoMemory) ⊎ ((result ≡ Status.Damaged) × MeetsBadNode input)) }
     ensures bad_line { (input : List ℕ) (n : ℕ) → words.now ≡ script_words → S.left source.old ≡ Some input
         → IsFirstBad input n
         → ¬ Rose (S.fault_count source.old) (S.fault_count source.new)
         → ¬ Rose (K.fault_count sink.old) (K.fault_count sink.new)
-        → (result ≡ Status.Script) ⊎ (result ≡ Status.NoMemory) }
+        → (result ≡ Status.Script) ⊎ ((result ≡ Status.NoMemory) ⊎ ((result ≡ Status.Damaged) × MeetsBadNode input)) }
 {
     if is_script(words) {
         run_script(alloc, source, sink)

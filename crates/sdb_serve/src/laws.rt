@@ -1,6 +1,8 @@
-ghost use Rattle.std.specs.Prelude.{◌≡◌, ℕ, List, [], ◌∷◌, Some, None};
-ghost use Rattle.sdb_serve.specs.Runs.{IsFirstBad, IsScript, last_line, usage_line};
-ghost use Rattle.sdb_serve.specs.Session.{SessionState, play_line};
+ghost use Rattle.std.specs.Prelude.{◌≡◌, ℕ, List, [], ◌∷◌, ◌++◌, codes, Some, None};
+ghost use Rattle.sdb_base.specs.declared.NodeHash.{NodeHash};
+ghost use Rattle.sdb_model.specs.Clear.{Clear};
+ghost use Rattle.sdb_serve.specs.Runs.{IsFirstBad, IsRun, IsScript, Run, last_line, usage_line};
+ghost use Rattle.sdb_serve.specs.Session.{SessionState, first_session, play_line, play_lines};
 ghost use Rattle.sdb_serve.specs.Statuses.{status_code, status_of};
 
 use crate::cause::Cause;
@@ -9,6 +11,13 @@ use crate::cause::Cause;
 pub fn first_bad_line_is_one()
     ensures one { (input : List ℕ) (m n : ℕ) → IsFirstBad input m → IsFirstBad input n → m ≡ n }
     ensures none { (input : List ℕ) (n : ℕ) → IsScript input → IsFirstBad input n → ⊥ }
+{}
+
+/// Where no two different nodes of the states of a run's blocks have one hash, its replies are those of the plain player
+/// of lines, and so is what is known after it.
+pub fn a_clear_run_is_the_models()
+    ensures { (r : Run) (input : List ℕ) → IsRun r input → Clear r.session.blocks
+        → play_lines first_session r.lines ≡ Some (r.replies, r.session) }
 {}
 
 /// A script may have 1,099,511,627,776 bytes: an empty line, of one byte, is answered where it is the last of them, and
@@ -29,5 +38,11 @@ pub fn known_ends()
         ≡ (115 ∷ 116 ∷ 111 ∷ 112 ∷ 32 ∷ 52 ∷ 10 ∷ []) ∷ []) }
     ensures memory { (status_code (status_of Cause.Memory) ≡ 11) × (last_line Cause.Memory 6
         ≡ (115 ∷ 116 ∷ 111 ∷ 112 ∷ 32 ∷ 49 ∷ 49 ∷ 10 ∷ []) ∷ []) }
+    // each digit is high in one byte and low in another
+    ensures bad_node { (hash : NodeHash)
+        → hash.0 ≡ 15 ∷ 30 ∷ 45 ∷ 60 ∷ 75 ∷ 90 ∷ 105 ∷ 120 ∷ 135 ∷ 150 ∷ 165 ∷ 180 ∷ 195 ∷ 210 ∷ 225 ∷ 240
+        ∷ 0 ∷ 17 ∷ 34 ∷ 51 ∷ 68 ∷ 85 ∷ 102 ∷ 119 ∷ 136 ∷ 153 ∷ 170 ∷ 187 ∷ 204 ∷ 221 ∷ 238 ∷ 255 ∷ []
+        → (status_code (status_of (Cause.BadNode hash)) ≡ 9) × (last_line (Cause.BadNode hash) 6
+        ≡ (codes "stop 9 node 0f1e2d3c4b5a69788796a5b4c3d2e1f000112233445566778899aabbccddeeff" ++ 10 ∷ []) ∷ []) }
     ensures usage { usage_line ≡ 115 ∷ 116 ∷ 111 ∷ 112 ∷ 32 ∷ 50 ∷ 10 ∷ [] }
 {}

@@ -1,5 +1,10 @@
-ghost use Rattle.std.specs.Prelude.{◌≡◌, ◌+◌, ◌^◌, ◌≤◌, List, length, Some, None, IfOk, OnOk, OnErr, IsErrOf};
+ghost use Rattle.std.specs.Prelude.{◌≡◌, ◌+◌, ◌^◌, ◌≤◌, List, length, Option, Some, None, IfErr, IfOk, OnOk, OnErr, IsErrOf};
 ghost use Rattle.sdb_base.specs.declared.Block.{Block};
+ghost use Rattle.sdb_base.specs.declared.NodeHash.{NodeHash};
+ghost use Rattle.sdb_model.specs.Clear.{Clear};
+ghost use Rattle.sdb_script.specs.declared.line.LineReply.{LineReply};
+ghost use Rattle.sdb_serve.specs.Playing.{MayMeetBadNode, MayPlay};
+ghost use Rattle.sdb_serve.specs.Replies.{MayAnswer, MayReply};
 ghost use Rattle.sdb_serve.specs.Session.{SessionState, answer, first_session, answer_job, play_line, reply_lines};
 ghost use Rattle.sdb_script.specs.Grammar.{line_of};
 ghost use Rattle.sdb_script.specs.LineTexts.{IsWithin};
@@ -9,7 +14,8 @@ ghost use Rattle.sdb_serve.specs.inner.Pieces.{as_piece};
 ghost use Rattle.sdb_serve.specs.declared.session.PlayFault.TheVariants.{NotAnswered, OutOfMemory};
 
 use crate::blocks::BlockMap;
-use sdb_base::OutOfMemory;
+use crate::nodes::NodeFault;
+use sdb_base::NodeHash;
 use sdb_model::{Refusal, Reply, Task};
 use sdb_script::{Line, LineFault, LineReply, parse_line, reply_text};
 use std::alloc::{AllocError, AllocFailed, Global};
@@ -24,6 +30,24 @@ pub(crate) enum PlayFault {
     NotAnswered,
     /// There was no memory.
     OutOfMemory,
+    /// What is kept under this hash is no node that hangs where it is wanted, or nothing is.
+    BadNode {
+        /// The hash.
+        hash: NodeHash,
+    },
+}
+
+impl From<NodeFault> for PlayFault {
+    ghost use Rattle.sdb_serve.specs.inner.Steps.{play_fault_of};
+
+    ghost from_gives = { λ fault e. e ≡ play_fault_of fault };
+
+    fn from(fault: NodeFault) -> PlayFault {
+        match fault {
+            NodeFault::OutOfMemory => PlayFault::OutOfMemory,
+            NodeFault::BadNode { hash } => PlayFault::BadNode { hash },
+        }
+    }
 }
 
 impl From<AllocError> for PlayFault {
@@ -61,6 +85,7 @@ fn parsed(alloc: Global, line: &[u8]) -> Result<Line, PlayFault>
     ensures line { IfOk result (λ l. line_of line.now ≡ Some l) }
     ensures within { IfOk result IsWithin }
     ensures refused { IsErrOf result PlayFault.NotAnswered → line_of line.now ≡ None }
+    ensures no_node { (hash : NodeHash) → ¬ IsErrOf result (PlayFault.BadNode hash) }
 {
     match parse_line(alloc, line) {
         Ok(parsed) => Ok(parsed),
@@ -84,16 +109,19 @@ fn write_reply(
     Ok(())
 }
 
-fn answer_job(blocks: &mut BlockMap, task: Task) -> Result<Reply, OutOfMemory>
+fn answer_job(blocks: &mut BlockMap, task: Task) -> Result<Reply, NodeFault>
     requires { IsWithin (lines.Job task) }
-    ensures { (all : List Block) → RepresentsBlocks blocks.old all
-        → IfOk result (λ reply. (reply ≡ (answer_job all task).0) × RepresentsBlocks blocks.new (answer_job all task).1) }
+    ensures may { (all : List Block) → RepresentsBlocks blocks.old all → IfOk result (MayAnswer all task) }
+    ensures after { (all : List Block) → RepresentsBlocks blocks.old all
+        → OnOk result (RepresentsBlocks blocks.new (answer_job all task).1) }
+    ensures sound { (all : List Block) → RepresentsBlocks blocks.old all → Clear (answer_job all task).1
+        → IfErr result (λ e. e ≡ NodeFault.OutOfMemory) }
 {
     match task {
-        Task::Read { id, key } => blocks.read(&id, &key),
-        Task::Next { id, key } => blocks.next(&id, &key),
-        Task::List { id, prefix } => blocks.list(&id, &prefix),
-        Task::Root { id } => blocks.root(&id),
+        Task::Read { id, key } => blocks.read(id, key),
+        Task::Next { id, key } => blocks.next(id, key),
+        Task::List { id, prefix } => blocks.list(id, prefix),
+        Task::Root { id } => Ok(blocks.root(&id)),
         Task::Import(block) => blocks.import(block),
     }
 }
@@ -126,10 +154,12 @@ impl Session {
 
     fn answer(&mut self, line: Line) -> Result<Option<LineReply>, PlayFault>
         requires { IsWithin line }
-        ensures answer { (s : SessionState) → Represents self.old s → IfOk result (λ reply. (next : SessionState)
-            × (answer s line ≡ Some (reply, next)) × Represents self.new next) }
+        ensures answer { (s : SessionState) → Represents self.old s → IfOk result (λ reply. (model : Option LineReply)
+            × (next : SessionState) × (answer s line ≡ Some (model, next)) × MayReply s.blocks line model reply × Represents self.new next) }
         ensures refused { (s : SessionState) → Represents self.old s → IsErrOf result PlayFault.NotAnswered
             → answer s line ≡ None }
+        ensures bad_node { (s : SessionState) (hash : NodeHash) → Represents self.old s → IsErrOf result (PlayFault.BadNode hash)
+            → (model : Option LineReply) × (next : SessionState) × (answer s line ≡ Some (model, next)) × (¬ Clear next.blocks) }
         ensures lines { self.new.lines ≡ self.old.lines }
         ensures read { self.new.read ≡ self.old.read }
     {
@@ -170,9 +200,11 @@ impl Session {
     /// empty. After an `Err` the session isn't used again.
     pub(crate) fn play_line(&mut self, line: &[u8], text: &mut Vec<u8>) -> Result<(), PlayFault>
         ensures answer { (s : SessionState) → Represents self.old s → OnOk result ((next : SessionState)
-            × (play_line s line.now ≡ Some (as_piece text.new.items, next)) × Represents self.new next) }
+            × MayPlay s line.now (as_piece text.new.items) next × Represents self.new next) }
         ensures refused { (s : SessionState) → Represents self.old s → IsErrOf result PlayFault.NotAnswered
             → play_line s line.now ≡ None }
+        ensures bad_node { (s : SessionState) (hash : NodeHash) → Represents self.old s → IsErrOf result (PlayFault.BadNode hash)
+            → MayMeetBadNode s line.now }
         ensures lines { OnOk result (self.new.lines ≡ self.old.lines + 1) }
         ensures read { OnOk result (self.new.read ≡ self.old.read + (length line.now + 1)) }
         ensures stopped { OnErr result (self.new.lines ≡ self.old.lines) }

@@ -14,6 +14,9 @@ pub enum Status {
     SourceFault,
     /// 5: the sink failed.
     SinkFault,
+    /// 9: what is kept under a hash is no node of a trie that hangs where it is wanted, or nothing is. That comes only where
+    /// two different nodes have one hash.
+    Damaged,
     /// 11: there was no memory.
     NoMemory,
 }
@@ -31,6 +34,7 @@ impl Status {
             Status::Script => 3,
             Status::SourceFault => 4,
             Status::SinkFault => 5,
+            Status::Damaged => 9,
             Status::NoMemory => 11,
         }
     }

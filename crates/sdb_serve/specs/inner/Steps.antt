@@ -1,14 +1,17 @@
 -- The steps of a run: one line, the lines of a piece of the input, and the last line.
-use Rattle.std.specs.Prelude.{◌≡◌, ◌⊎◌, ℕ, List, [], ◌∷◌, ◌++◌, length, drop, true, false, Option, Some}
+use Rattle.std.specs.Prelude.{◌≡◌, ◌⊎◌, ℕ, List, [], ◌∷◌, ◌++◌, length, drop, true, false, Option}
 use Rattle.sdb_io.specs.Faults.{CountsFault}
 use Rattle.sdb_io.specs.Output.{Gets, GetsPrefix, Output}
-use Rattle.sdb_serve.specs.Session.{SessionState, play_line}
+use Rattle.sdb_serve.specs.Playing.{MayPlay}
+use Rattle.sdb_serve.specs.Session.{SessionState}
 use Rattle.sdb_serve.specs.Statuses.{status_of}
 use Rattle.sdb_serve.specs.inner.Blocks.{RepresentsBlocks}
 use Rattle.sdb_serve.specs.Runs.{IsAnswered, IsNear, IsRun, MayStop, Run, Waits, last_line}
 use Rattle.sdb_serve.specs.declared.session.Session.{Session}
 use Rattle.sdb_serve.specs.declared.session.PlayFault.{PlayFault}
-use Rattle.sdb_serve.specs.declared.session.PlayFault.TheVariants.{NotAnswered, OutOfMemory}
+use Rattle.sdb_serve.specs.declared.session.PlayFault.TheVariants.{BadNode, NotAnswered, OutOfMemory}
+use Rattle.sdb_serve.specs.declared.nodes.NodeFault.{NodeFault}
+use Rattle.sdb_serve.specs.declared.nodes.NodeFault.TheVariants as nodes
 use Rattle.sdb_serve.specs.declared.cause.Cause.{Cause}
 use Rattle.sdb_serve.specs.declared.cause.Cause.TheVariants as causes
 use Rattle.sdb_serve.specs.declared.cause.Stop.{Stop}
@@ -27,6 +30,12 @@ pub record Represents (p : Session) (s : SessionState) : Type 0 where
 abbrev pub cause_of : PlayFault → Cause
 cause_of NotAnswered = causes.BadLine
 cause_of OutOfMemory = causes.Memory
+cause_of (BadNode hash) = causes.BadNode hash
+
+-- what comes of a job's fault
+abbrev pub play_fault_of : NodeFault → PlayFault
+play_fault_of nodes.OutOfMemory = OutOfMemory
+play_fault_of (nodes.BadNode hash) = BadNode hash
 
 -- Where this holds a fault is counted, and else none.
 abbrev pub CountsWhere : Type 0 → ℕ → ℕ → Type 0
@@ -34,7 +43,7 @@ CountsWhere Failed before after = (Failed → CountsFault true before after) × 
 
 -- a line was answered, and the sink got its reply
 abbrev pub LineAnswered : SessionState → List ℕ → Session → Output → Output → Type 0
-LineAnswered s line p old new = (replies : List (List ℕ)) × (next : SessionState) × (play_line s line ≡ Some (replies, next))
+LineAnswered s line p old new = (replies : List (List ℕ)) × (next : SessionState) × MayPlay s line replies next
     × Represents p next × Gets old new replies
 
 -- a line stopped the run, or the sink failed at its reply
@@ -89,6 +98,14 @@ IsClosed cause n result old new =
     ((result ≡ status_of cause) × Gets old new (last_line cause n))
     ⊎ ((result ≡ SinkFault) × (line : List ℕ) × (last_line cause n ≡ line ∷ []) × GetsPrefix old new [] line)
 
--- For want of memory for the line that names a bad line, the cause is that.
+-- the last line for this cause takes memory
+abbrev pub MakesLine : Cause → Type 0
+MakesLine causes.End = ⊥
+MakesLine causes.BadLine = Unit {0}
+MakesLine causes.Source = ⊥
+MakesLine causes.Memory = ⊥
+MakesLine (causes.BadNode hash) = Unit {0}
+
+-- For want of memory for a last line that names a line or a hash, the cause is that.
 abbrev pub IsLastCause : Cause → Cause → Type 0
-IsLastCause cause last = (last ≡ cause) ⊎ ((cause ≡ causes.BadLine) × (last ≡ causes.Memory))
+IsLastCause cause last = (last ≡ cause) ⊎ (MakesLine cause × (last ≡ causes.Memory))

@@ -1,10 +1,11 @@
-use Rattle.std.proofs.Common.{◌≡◌, ◌∙◌, ℕ, take, drop, length, sym, ap, arith, Err, Some}
+use Rattle.std.proofs.Common.{◌≡◌, ◌∙◌, ℕ, take, drop, length, sym, ap, arith, [], Err, Some}
 use Rattle.std.proofs.lemmas.List.{length-drop}
 use Rattle.sdb_serve.specs.declared.cause.Cause.{Cause}
 use Rattle.sdb_serve.specs.Runs.{HasNoLineFeed}
 use Rattle.sdb_serve.proofs.Answering.{nothing_in}
-use Rattle.sdb_serve.proofs.Halting.{ends, not_ended, reading_fails, too_long}
-use Rattle.sdb_serve.proofs.Chunks.{chunk_halts, chunk_then}
+use Rattle.sdb_serve.proofs.Halting.{ends, no_memory, not_ended, reading_fails, too_long}
+use Rattle.sdb_serve.proofs.Chunks.{begins, chunk_halts, chunk_then}
+use Rattle.sdb_serve.proofs.Lines.{clear_nothing}
 use Rattle.sdb_serve.proofs.Running.{some_is}
 use Rattle.sdb_serve.proofs.serve.read_lines.Goals as goal
 
@@ -85,3 +86,7 @@ returns-in-Ok-eq0-clause-stopped g c = λ input r told at.
     ((c.in-Ok-eq0.ensures.taken was.0 was.1).0 ∙ ap (λ (n : ℕ). Some (drop n was.0)) c.in-Ok-eq0.field-0-test)
     c.chunks.invariant.clear (omega (arith, c.chunks.invariant.short)) end
     (λ e. absurd (c.if-len-eq0.false (omega (arith, ap length e, c.len.ensures, c.in-Ok-eq0.field-0-test, c.in-Ok-eq0.ensures.len))))
+
+pub returns-in_default-clause-stopped : goal.returns-in_default-clause-stopped
+returns-in_default-clause-stopped g c = λ input r told at.
+    no_memory _ 0 [] input r input c.args.session.now _ _ (begins [] input r input c.args.session.now _ at) clear_nothing (omega arith) (omega arith) told

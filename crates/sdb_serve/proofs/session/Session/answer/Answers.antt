@@ -1,18 +1,26 @@
-use Rattle.std.proofs.Common.{◌≡◌, sym, ◌∙◌, refl, true, [], ◌∷◌}
-use Rattle.sdb_serve.proofs.Answering.{blank, genesis_again, genesis_early, genesis_first, job_early, job_is, job_without_genesis, new_again, new_first, no_test}
+use Rattle.std.proofs.Common.{◌≡◌, sym, ◌∙◌, refl, true, [], ◌∷◌, Some, None}
+use Rattle.std.proofs.lemmas.Result.{err_from_is_err_and}
+use Rattle.sdb_model.specs.declared.Refusal.TheVariants.{HasGenesis, NoGenesis}
+use Rattle.sdb_model.specs.declared.Reply.TheVariants.{Refused}
+use Rattle.sdb_script.specs.declared.LineReply.TheVariants as replies
+use Rattle.sdb_serve.proofs.Answering.{blank, genesis_again, genesis_early, genesis_first, job_early, job_is, job_without_genesis, meets_node, new_again, new_first, no_test}
 use Rattle.sdb_serve.specs.Session.{answer_job}
+use Rattle.sdb_serve.specs.inner.Steps.{play_fault_of}
+use Rattle.sdb_serve.specs.declared.session.PlayFault.TheVariants.{BadNode}
 use Rattle.sdb_serve.proofs.session.Session.answer.Goals as goal
 
 pub returns-then-self-clause-refused : goal.returns-then-self-clause-refused
 returns-then-self-clause-refused c = λ s h _. rw c.in-New.is (new_again s _ (sym h.begun ∙ c.if-self.true))
 
 pub returns-in-Blank-clause-answer : goal.returns-in-Blank-clause-answer
-returns-in-Blank-clause-answer c = λ s h. (s, rw c.in-Blank.is (blank s), h)
+returns-in-Blank-clause-answer c = λ s h. (None, s, rw c.in-Blank.is (blank s), rw c.in-Blank.is refl, h)
 
 pub returns-else-self-clause-answer : goal.returns-else-self-clause-answer
 returns-else-self-clause-answer c = λ s h. (
+  Some replies.New,
   record s { begun = true },
   rw c.in-New.is (new_first s _ (sym h.begun ∙ c.if-self.false)),
+  rw c.in-New.is refl,
   record { begun = refl; window = h.window; read = h.read; blocks = h.blocks },
 )
 
@@ -21,17 +29,21 @@ returns-then-not-self-clause-refused c = λ s h _. rw c.in-Genesis.is (genesis_e
 
 pub returns-then-not-is_empty-clause-answer : goal.returns-then-not-is_empty-clause-answer
 returns-then-not-is_empty-clause-answer c = λ s h. (
+  Some (replies.Refused HasGenesis),
   s,
   rw c.in-Genesis.is (genesis_again s _ _ (sym h.begun ∙ c.if-not-self.false) (λ e. no_test ((c.if-not-is_empty.ensures s.blocks h.blocks).1 e))),
+  rw c.in-Genesis.is refl,
   h,
 )
 
 pub returns-in_ok-genesis-in-Genesis-clause-answer : goal.returns-in_ok-genesis-in-Genesis-clause-answer
 returns-in_ok-genesis-in-Genesis-clause-answer c = λ s h.
     let none : s.blocks ≡ [] = (c.if-not-is_empty.ensures s.blocks h.blocks).0 refl in (
+      Some replies.Genesis,
       record s { window = c.in-Genesis.window; blocks = c.in-Genesis.block ∷ [] },
       rw c.in-Genesis.is (genesis_first s _ _ (sym h.begun ∙ c.if-not-self.false) none),
-      record { begun = h.begun; window = refl; read = h.read; blocks = c.in_ok-genesis-in-Genesis.ensures.ok (rw none at h.blocks) },
+      rw c.in-Genesis.is refl,
+      record { begun = h.begun; window = refl; read = h.read; blocks = c.in_ok-genesis-in-Genesis.ensures (rw none at h.blocks) },
     )
 
 pub returns-then-not-self-2-clause-refused : goal.returns-then-not-self-2-clause-refused
@@ -39,15 +51,32 @@ returns-then-not-self-2-clause-refused c = λ s h _. rw c.in-Job.is (job_early s
 
 pub returns-then-is_empty-clause-answer : goal.returns-then-is_empty-clause-answer
 returns-then-is_empty-clause-answer c = λ s h. (
+  Some (replies.Job (Refused NoGenesis)),
   s,
   rw c.in-Job.is (job_without_genesis s _ (sym h.begun ∙ c.if-not-self-2.false) ((c.if-is_empty.ensures s.blocks h.blocks).0 refl)),
+  rw c.in-Job.is (Refused NoGenesis, refl, refl, λ clear. refl),
   h,
 )
 
 pub returns-in_ok-reply-in-Job-clause-answer : goal.returns-in_ok-reply-in-Job-clause-answer
 returns-in_ok-reply-in-Job-clause-answer c = λ s h.
-    let a = c.in_ok-reply-in-Job.ensures s.blocks h.blocks in (
-      record s { blocks = (answer_job s.blocks c.in-Job.task).1 },
-      rw c.in-Job.is (job_is s _ _ (sym h.begun ∙ c.if-not-self-2.false) (λ e. no_test ((c.if-is_empty.ensures s.blocks h.blocks).1 e)) a.0),
-      record { begun = h.begun; window = h.window; read = h.read; blocks = a.1 },
+    let job = answer_job s.blocks c.in-Job.task in
+    let a = c.in_ok-reply-in-Job.ensures.may s.blocks h.blocks in (
+      Some (replies.Job job.0),
+      record s { blocks = job.1 },
+      rw c.in-Job.is (job_is s _ _ (sym h.begun ∙ c.if-not-self-2.false) (λ e. no_test ((c.if-is_empty.ensures s.blocks h.blocks).1 e)) refl),
+      rw c.in-Job.is (_, refl, a.kind, a.clear),
+      record { begun = h.begun; window = h.window; read = h.read; blocks = c.in_ok-reply-in-Job.ensures.after s.blocks h.blocks },
     )
+
+pub returns-in_err-reply-in-Job-clause-bad_node : goal.returns-in_err-reply-in-Job-clause-bad_node
+returns-in_err-reply-in-Job-clause-bad_node c =
+    let p = err_from_is_err_and c.from_residual-in_err-reply-in-Job.result c.from_residual-in_err-reply-in-Job.ensures.1 in
+    rw (p.1, p.2) (λ s hash h e.
+    let job = answer_job s.blocks c.in-Job.task in
+    let is : play_fault_of c.in_err-reply-in-Job.field-0.0 ≡ BadNode hash = cc in (
+      Some (replies.Job job.0),
+      record s { blocks = job.1 },
+      rw c.in-Job.is (job_is s _ _ (sym h.begun ∙ c.if-not-self-2.false) (λ e. no_test ((c.if-is_empty.ensures s.blocks h.blocks).1 e)) refl),
+      λ clear. meets_node c.in_err-reply-in-Job.field-0.0 hash is (c.in_err-reply-in-Job.ensures.sound s.blocks h.blocks clear),
+    ))

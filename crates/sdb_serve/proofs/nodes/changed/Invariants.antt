@@ -1,0 +1,12 @@
+use Rattle.sdb_serve.specs.inner.Kept.{IsKeptState, IsReliable, IsSameKeeper}
+use Rattle.trie_model.specs.State.{State}
+use Rattle.trie_change.specs.Changing.{IsChanging, KeepsLimits}
+use Rattle.sdb_serve.proofs.NodeFetches.{IsFetching}
+use Rattle.sdb_serve.proofs.nodes.changed.Given as goal
+
+abbrev pub invariant-loop : goal.invariant-loop
+invariant-loop l = record {
+  limits : KeepsLimits l.job;
+  same : IsReliable l.fn.keeper → IsSameKeeper l.fn.keeper l.keeper;
+  at : (m : State) → IsKeptState l.fn.keeper l.fn.root.0 m → IsFetching l.fn.keeper (IsChanging l.job m l.fn.changes);
+}
