@@ -41,8 +41,8 @@ const DOZEN: [(&[u8], &[u8]); 12] = [
     (b"\xff", b""),
 ];
 
-// Its stored nodes.
-const NODES: [&[u8]; 9] = [
+/// Its stored nodes.
+pub(crate) const NODES: [&[u8]; 9] = [
     ROOT, AT_1, AT_100, AT_1000, AT_2, AT_203, AT_2031, AT_A, AT_AA,
 ];
 
@@ -231,28 +231,29 @@ fn dozen(alloc: Global) -> Result<Changes, Fail> {
     Ok(changes)
 }
 
-fn adding(alloc: Global, node: &[u8]) -> Result<Ops, OutOfMemory>
+/// The operation that adds a reference to a node with these bytes, under that hash.
+pub(crate) fn adding(alloc: Global, hash: NodeHash, bytes: &[u8]) -> Result<Ops, OutOfMemory>
     ensures { IfOk result (All HasShortKey) }
 {
     let mut ops = Ops::new(alloc);
     ops.push(Op::AddRef {
-        key: NodeHash(hash256(node)),
-        bytes: Bytes::from_slice(alloc, node)?,
+        key: hash,
+        bytes: Bytes::from_slice(alloc, bytes)?,
     })?;
     Ok(ops)
 }
 
-fn commit<K: Keeper>(keeper: &mut K, ops: Ops) -> bool
+pub(crate) fn commit<K: Keeper>(keeper: &mut K, ops: Ops) -> bool
     requires { All HasShortKey ops }
 {
     keeper.commit(ops).is_ok()
 }
 
-// A keeper of these nodes.
-fn keeper(alloc: Global, nodes: &[&[u8]]) -> Result<MapKeeper, Fail> {
+/// A keeper of these nodes.
+pub(crate) fn keeper(alloc: Global, nodes: &[&[u8]]) -> Result<MapKeeper, Fail> {
     let mut keeper = MapKeeper::new(alloc);
     for node in nodes {
-        if !commit(&mut keeper, adding(alloc, node)?) {
+        if !commit(&mut keeper, adding(alloc, NodeHash(hash256(node)), node)?) {
             return Err(Fail::new("a commit is refused"));
         }
     }

@@ -12,6 +12,8 @@ mod codec;
 #[cfg(test)]
 mod example_nodes;
 #[cfg(test)]
+mod fetches;
+#[cfg(test)]
 mod reads;
 #[cfg(test)]
 mod roots;
