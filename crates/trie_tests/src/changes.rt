@@ -341,6 +341,88 @@ fn changes_of_a_state(rt: HostRuntime) -> Result<(), Fail> {
     Ok(())
 }
 
+// How a node was fetched for a change.
+#[derive(Clone, Copy, Debug, PartialEq, Eq)]
+enum Way {
+    // it was fed
+    Fed,
+    // the keeper's call failed
+    Failed,
+    // the keeper has nothing under the hash
+    Missing,
+    // the bytes are no node that hangs there
+    Refused,
+}
+
+// The job after its wanted node was fetched, if it came this way.
+fn fetched(keeper: &mut MapKeeper, mut job: ChangeJob, way: Way) -> Result<ChangeJob, Fail>
+    requires { KeepsLimits job }
+    ensures { IfOk result KeepsLimits }
+{
+    let Some(hash) = job.want() else {
+        return Err(Fail::new("no node is wanted"));
+    };
+    let came = match keeper.node(hash) {
+        Ok(Some(node)) => match job.feed(node.as_slice()) {
+            Ok(()) => Way::Fed,
+            Err(_) => Way::Refused,
+        },
+        Ok(None) => Way::Missing,
+        Err(_) => Way::Failed,
+    };
+    if came == way {
+        Ok(job)
+    } else {
+        Err(Fail::new("a node was fetched in another way"))
+    }
+}
+
+// A change of a key under the nodes at the root, 2 and 203.
+fn under_203(alloc: Global) -> Result<ChangeJob, Fail>
+    ensures { IfOk result KeepsLimits }
+{
+    let mut list = Changes::new(alloc);
+    list.push(change(alloc, b"\x20\x30", Some(b"\x09"))?)?;
+    Ok(ChangeJob::new(alloc, NodeHash(hash256(ROOT)), within(list)?)?)
+}
+
+#[test]
+fn a_change_goes_on_after_a_call_that_fails(rt: HostRuntime) -> Result<(), Fail> {
+    let alloc = rt.alloc();
+    let mut keeper = keeper(alloc, &NODES)?;
+    // after nine commits the third read of a node
+    keeper.fail_at(11)?;
+    let mut job = under_203(alloc)?;
+    job = fetched(&mut keeper, job, Way::Fed)?;
+    job = fetched(&mut keeper, job, Way::Fed)?;
+    job = fetched(&mut keeper, job, Way::Failed)?;
+    job = fetched(&mut keeper, job, Way::Fed)?;
+    let delta = finished(job)?;
+    assert_eq!(rt; (delta.puts.len(), delta.drops.len()), (3, 3));
+    Ok(())
+}
+
+// The nodes but that at 203.
+const BUT_203: [&[u8]; 8] = [ROOT, AT_1, AT_100, AT_1000, AT_2, AT_2031, AT_A, AT_AA];
+
+#[test]
+fn a_change_wants_a_node_until_it_is_there(rt: HostRuntime) -> Result<(), Fail> {
+    let alloc = rt.alloc();
+    let hash = NodeHash(hash256(AT_203));
+    let mut missing = keeper(alloc, &BUT_203)?;
+    let mut job = under_203(alloc)?;
+    job = fetched(&mut missing, job, Way::Fed)?;
+    job = fetched(&mut missing, job, Way::Fed)?;
+    job = fetched(&mut missing, job, Way::Missing)?;
+    job = fetched(&mut missing, job, Way::Missing)?;
+    assert!(rt; job.want() == Some(&hash));
+    assert!(rt; commit(&mut missing, adding(alloc, hash, b"\x20")?));
+    job = fetched(&mut missing, job, Way::Refused)?;
+    job = fetched(&mut missing, job, Way::Refused)?;
+    assert!(rt; job.want() == Some(&hash));
+    Ok(())
+}
+
 #[test]
 fn states_from_nothing(rt: HostRuntime) -> Result<(), Fail> {
     let alloc = rt.alloc();
