@@ -1,32 +1,50 @@
 -- The records of a pipeline in which each commit has its own.
-use Rattle.std.proofs.Common.{◌≡◌, ◌∷◌, ◌++◌, [], ℕ, zero, suc, ◌+◌, ◌<◌, Some, length, get_or, refl, ap, sym, subst, ◌∙◌, arith, length-append, ⊎_elim}
-use Rattle.std.specs.Prelude.{slice_get}
-use Rattle.std.proofs.Math.Seq.{get_or-append_seam}
-use Rattle.std.proofs.lemmas.Bool.{cases_eq}
-use Rattle.std.proofs.lemmas.List.{get_or_append_left}
-use Rattle.std.proofs.lemmas.Option.{slice_get-get_or}
-use Rattle.sdb_base.specs.Uncrowded.{up_to}
+use Rattle.std.proofs.Common.{◌≡◌, ◌∷◌, ◌++◌, [], ℕ, zero, suc, ◌+◌, ◌-◌, ◌<◌, ◌≤◌, List, Some, length, refl, sym, ap, ◌∙◌, arith}
+use Rattle.sdb_base.specs.Pipeline.{Enacts, Pipeline, with_record}
+use Rattle.sdb_base.specs.Uncrowded.{counted_up, uncrowded}
+use Rattle.sdb_base.specs.declared.numbers.Numbers.{Numbers}
 
-pub up_to_length : (n : ℕ) → length (up_to n) ≡ n
-up_to_length zero = refl
-up_to_length (suc n) =
-    let here = up_to_length n in
-    let more = length-append (up_to n) (suc n ∷ []) in
-    omega arith
+counted_length : (a k : ℕ) → length (counted_up a k) ≡ k
+counted_length a zero = refl
+counted_length a (suc k) = ap (λ n. suc n) (counted_length (suc a) k)
 
-item : (n i : ℕ) → i < n → get_or (up_to n) i 0 ≡ i + 1
-item zero i lt = absurd (omega arith)
-item (suc n) i lt =
-    let len = up_to_length n in
-    ⊎_elim
-    (λ e. subst (λ (k : ℕ). get_or (up_to n ++ suc n ∷ []) k 0 ≡ k + 1) (len ∙ sym e)
-    (get_or-append_seam (up_to n) (suc n) [] 0 ∙ omega arith))
-    (λ ne. let below : i < length (up_to n) = omega arith in
-    get_or_append_left (up_to n) (suc n ∷ []) 0 i below ∙ item n i (omega arith))
-    (cases_eq i n)
+counted_last : (a k : ℕ) → counted_up a k ++ suc (a + k) ∷ [] ≡ counted_up a (suc k)
+counted_last a zero = ap (λ n. suc n ∷ []) (omega arith)
+counted_last a (suc k) =
+    ap (λ n. suc a ∷ (counted_up (suc a) k ++ n ∷ [])) (omega arith) ∙ ap (λ ns. suc a ∷ ns) (counted_last (suc a) k)
 
--- the record at a place is of one commit more than the place
-pub up_to_item : (n i : ℕ) → i < n → slice_get (up_to n) i ≡ Some (i + 1)
-up_to_item n i lt =
-    let len = up_to_length n in
-    slice_get-get_or (up_to n) i 0 (omega arith) ∙ ap (λ (k : ℕ). Some k) (item n i lt)
+-- as many records wait as commits are logged and not enacted
+pub waiting_length : (enacted logged : ℕ) → length (counted_up enacted (logged - enacted)) ≡ logged - enacted
+waiting_length enacted logged = counted_length enacted (logged - enacted)
+
+-- the next commit's record is appended
+waiting_more : (enacted logged : ℕ) → enacted ≤ logged
+    → counted_up enacted (logged - enacted) ++ (logged + 1) ∷ [] ≡ counted_up enacted ((logged + 1) - enacted)
+waiting_more enacted logged le =
+    let last : logged + 1 ≡ suc (enacted + (logged - enacted)) = omega arith in
+    let more : suc (logged - enacted) ≡ (logged + 1) - enacted = omega arith in
+    ap (λ n. counted_up enacted (logged - enacted) ++ n ∷ []) last
+    ∙ counted_last enacted (logged - enacted) ∙ ap (λ k. counted_up enacted k) more
+
+pub logs_next : (n : Numbers) → n.enacted ≤ n.logged
+    → uncrowded (record n { logged = n.logged + 1 }) ≡ with_record (uncrowded n) (n.logged + 1)
+logs_next n le =
+    ap (λ (ns : List ℕ). let p : Pipeline = record (uncrowded (record n { logged = n.logged + 1 })) { waiting = ns } in p) (sym (waiting_more n.enacted n.logged le))
+
+-- the oldest record is that of the next commit after the enacted ones
+waiting_first : (enacted logged : ℕ) → enacted < logged
+    → counted_up enacted (logged - enacted) ≡ (enacted + 1) ∷ counted_up (enacted + 1) (logged - (enacted + 1))
+waiting_first enacted logged lt =
+    let more : logged - enacted ≡ suc (logged - (enacted + 1)) = omega arith in
+    let next : suc enacted ≡ enacted + 1 = omega arith in
+    ap (λ k. counted_up enacted k) more ∙ ap (λ (n : ℕ). n ∷ counted_up n (logged - (enacted + 1))) next
+
+pub enacts_next : (n : Numbers) → n.enacted < n.flushed → n.flushed ≤ n.logged
+    → Enacts (uncrowded n) (Some (n.enacted + 1)) (uncrowded (record n { enacted = n.enacted + 1 }))
+enacts_next n lt le = (
+  n.flushed - (n.enacted + 1),
+  counted_up (n.enacted + 1) (n.logged - (n.enacted + 1)),
+  omega arith,
+  waiting_first n.enacted n.logged (omega arith),
+  refl,
+)

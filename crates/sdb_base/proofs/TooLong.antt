@@ -3,7 +3,7 @@ use Rattle.std.proofs.Common.{◌≡◌, ◌∷◌, [], ℕ, zero, suc, ◌<◌,
 use Rattle.std.specs.Prelude.{Any}
 use Rattle.std.proofs.lemmas.Bool.{ltb-true}
 use Rattle.sdb_base.specs.Keeping.{HasValueOf, most_in_kept_value}
-use Rattle.sdb_base.specs.MapKeeping.{first_too_long, value_length}
+use Rattle.sdb_base.specs.TooLong.{first_too_long, value_length}
 use Rattle.sdb_base.specs.declared.op.Op.{Op}
 use Rattle.sdb_base.specs.declared.op.Op.TheVariants.{AddRef, DropRef, Put, Erase}
 

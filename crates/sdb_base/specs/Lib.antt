@@ -1,6 +1,7 @@
 pub mod Nibbles
 pub mod Content
 pub mod Keeping
+pub mod TooLong
 pub mod Pipeline
 pub mod Holding
 pub mod Uncrowded

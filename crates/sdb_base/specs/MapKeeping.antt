@@ -1,18 +1,18 @@
 -- What a contract sees of a keeper in memory.
-use Rattle.std.specs.Prelude.{◌≡◌, ◌≤◌, ℕ, nat_lt, List, [], ◌∷◌, ◌++◌, length, Contains, Option, Some, None, if◌then◌else◌}
+use Rattle.std.specs.Prelude.{◌≡◌, ◌≤◌, ℕ, List, ◌++◌, length, Contains, Option, Some, None}
 use Rattle.std.specs.BTreeMap.{get}
 use Rattle.std.specs.Cmp.Lexicographic.{slice_cmp}
 use Rattle.std.specs.Ordering.{nat_cmp}
 use Rattle.sdb_io.specs.Faults.{one_more}
 use Rattle.sdb_base.specs.Content.{Counted, meta_under, node_under}
 use Rattle.sdb_base.specs.Holding.{hash_cmp, held_at}
-use Rattle.sdb_base.specs.Keeping.{Commits, most_in_kept_value, operations}
+use Rattle.sdb_base.specs.Keeping.{Commits, operations}
 use Rattle.sdb_base.specs.Pipeline.{Pipeline}
+use Rattle.sdb_base.specs.TooLong.{first_too_long}
 use Rattle.sdb_base.specs.Uncrowded.{uncrowded}
 use Rattle.sdb_base.specs.declared.numbers.KeepFault.{KeepFault}
 use Rattle.sdb_base.specs.declared.numbers.KeepFault.TheVariants.{OutOfMemory, Disk, Stopped, ValueTooLong, IndexFull, TierFull, Damaged, NumbersEnd}
 use Rattle.sdb_base.specs.declared.op.Op.{Op}
-use Rattle.sdb_base.specs.declared.op.Op.TheVariants.{AddRef, DropRef, Put, Erase}
 use Rattle.sdb_base.specs.declared.map_keeper.MapKeeper.{MapKeeper}
 
 -- what column 0 holds under a key
@@ -48,18 +48,6 @@ failed_keeper_calls m = m.plan.faults
 -- the next call that can fail is to
 abbrev pub FailsNext : MapKeeper → Type 0
 FailsNext m = Contains (keeper_calls_to_fail m) (keeper_calls m)
-
--- how many bytes the operation's value has, 0 where it has none
-abbrev pub value_length : Op → ℕ
-value_length (AddRef key bytes) = length bytes
-value_length (DropRef key) = 0
-value_length (Put key bytes) = length bytes
-value_length (Erase key) = 0
-
--- the length of the first value that is too long
-abbrev pub first_too_long : List Op → Option ℕ
-first_too_long [] = None
-first_too_long (op ∷ ops) = if nat_lt most_in_kept_value (value_length op) then Some (value_length op) else first_too_long ops
 
 -- neither the count of failed calls nor that of accepted commits fell
 abbrev pub NeverFalls : MapKeeper → MapKeeper → Type 0

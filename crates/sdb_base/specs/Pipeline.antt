@@ -1,5 +1,5 @@
 -- How far commits have come through a pipeline, and what its stages do where no index is ever without room.
-use Rattle.std.specs.Prelude.{◌≡◌, ◌<◌, ◌+◌, ℕ, List, [], ◌∷◌, ◌++◌, length, slice_get, Option, Some, None}
+use Rattle.std.specs.Prelude.{◌≡◌, ◌<◌, ◌+◌, ℕ, suc, List, [], ◌∷◌, ◌++◌, length, Option, Some, None}
 use Rattle.sdb_base.specs.declared.numbers.Numbers.{Numbers}
 use Rattle.sdb_base.specs.declared.numbers.Logged.{Logged}
 use Rattle.sdb_base.specs.declared.numbers.Logged.TheVariants as logged
@@ -16,13 +16,12 @@ pub record Growth : Type 0 where
   pub growing : ℕ
   pub cursor : ℕ
 
--- The state of a pipeline: the five numbers; for each record that was appended in this session the number of commits up
--- to and with it; how many of these records are flushed, and how many enacted; the columns' indexes.
+-- The state of a pipeline: the five numbers; for each record that isn't enacted, oldest first, the number of commits up to and
+-- with it; how many of these records are flushed; the columns' indexes.
 pub record Pipeline : Type 0 where
   pub numbers : Numbers
-  pub records : List ℕ
-  pub flushed : ℕ
-  pub enacted : ℕ
+  pub waiting : List ℕ
+  pub ready : ℕ
   pub columns : ℕ → Growth
 
 -- one commit more was accepted
@@ -31,15 +30,15 @@ with_commit p = record p { numbers = record p.numbers { accepted = p.numbers.acc
 
 -- a record was appended, and so many commits are logged now
 abbrev pub with_record : Pipeline → ℕ → Pipeline
-with_record p n = record p { numbers = record p.numbers { logged = n }; records = p.records ++ n ∷ [] }
+with_record p n = record p { numbers = record p.numbers { logged = n }; waiting = p.waiting ++ n ∷ [] }
 
 -- the records are flushed
 abbrev pub all_flushed : Pipeline → Pipeline
-all_flushed p = record p { numbers = record p.numbers { flushed = p.numbers.logged }; flushed = length p.records }
+all_flushed p = record p { numbers = record p.numbers { flushed = p.numbers.logged }; ready = length p.waiting }
 
--- one record more is enacted, of this number of commits
-abbrev pub one_enacted : Pipeline → ℕ → Pipeline
-one_enacted p n = record p { numbers = record p.numbers { enacted = n }; enacted = p.enacted + 1 }
+-- one record is enacted, of this number of commits; these wait after it, so many of them flushed
+abbrev pub one_enacted : Pipeline → ℕ → List ℕ → ℕ → Pipeline
+one_enacted p n rest k = record p { numbers = record p.numbers { enacted = n }; waiting = rest; ready = k }
 
 -- what is enacted is cleaned
 abbrev pub all_cleaned : Pipeline → Pipeline
@@ -47,8 +46,8 @@ all_cleaned p = record p { numbers = record p.numbers { cleaned = p.numbers.enac
 
 -- the next record is enacted, where one is flushed that isn't
 abbrev pub Enacts : Pipeline → Option ℕ → Pipeline → Type 0
-Enacts p None q = (p.enacted ≡ p.flushed) × (q ≡ p)
-Enacts p (Some n) q = (p.enacted < p.flushed) × (slice_get p.records p.enacted ≡ Some n) × (q ≡ one_enacted p n)
+Enacts p None q = (p.ready ≡ 0) × (q ≡ p)
+Enacts p (Some n) q = (k : ℕ) × (rest : List ℕ) × (p.ready ≡ suc k) × (p.waiting ≡ n ∷ rest) × (q ≡ one_enacted p n rest k)
 
 -- the next commit is logged, where no index is without room
 abbrev pub LogsUncrowded : Pipeline → Logged → Pipeline → Type 0

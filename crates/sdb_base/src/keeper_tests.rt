@@ -98,6 +98,20 @@ fn a_value_that_is_too_long_refuses_its_commit(rt: HostRuntime) -> Result<(), Fa
 }
 
 #[test]
+fn the_first_value_that_is_too_long_is_found(rt: HostRuntime) -> Result<(), Fail> {
+    for (first, second, want) in [
+        (8_388_608, 1, None),
+        (8_388_608, 8_388_609, Some(8_388_609)),
+        (8_388_610, 8_388_609, Some(8_388_610)),
+    ] {
+        let steps = [Add(1, 4), Fill(1, 5, first), Fill(2, 6, second), Erase(1)];
+        let filled = ops(rt.alloc(), &steps)?;
+        assert_eq!(rt; too_long_value(&filled), want);
+    }
+    Ok(())
+}
+
+#[test]
 fn commits_go_through_the_stages(rt: HostRuntime) -> Result<(), Fail> {
     let mut keeper = MapKeeper::new(rt.alloc());
     for number in 1..4u64 {

@@ -1,5 +1,6 @@
 ghost use Rattle.std.specs.Prelude.{◌≡◌, ◌∷◌, ◌++◌, ◌-◌, ◌^◌, [], ℕ, List, Option, Some, None};
 ghost use Rattle.sdb_base.specs.Content.{Counted, meta_from, meta_under, node_from, node_under, with_reference, without_reference};
+ghost use Rattle.sdb_base.specs.Pipeline.{Enacts, Pipeline, all_flushed, one_enacted};
 ghost use Rattle.sdb_base.specs.declared.op.Op.{Op};
 ghost use Rattle.sdb_base.specs.declared.op.Op.TheVariants.{AddRef, DropRef, Put, Erase};
 
@@ -24,4 +25,15 @@ pub fn known_contents()
 pub fn operations_apply_in_order()
     ensures nodes { (key : List ℕ) (now : Option Counted) (xs ys : List Op) → node_from key now (xs ++ ys) ≡ node_from key (node_from key now xs) ys }
     ensures metas { (key : List ℕ) (now : Option Counted) (xs ys : List Op) → meta_from key now (xs ++ ys) ≡ meta_from key (meta_from key now xs) ys }
+{}
+
+/// What flushing and enacting do to records that wait, three of them, the first two of one commit: all are flushed; the
+/// oldest one is enacted, where it is flushed, and leaves the others; and none is where none is flushed.
+pub fn known_stages()
+    ensures flushed { (p : Pipeline) → p.waiting ≡ 1 ∷ 1 ∷ 2 ∷ [] → (all_flushed p).ready ≡ 3 }
+    ensures enacted { (p : Pipeline) → p.waiting ≡ 1 ∷ 1 ∷ 2 ∷ [] → p.ready ≡ 2 → Enacts p (Some 1) (one_enacted p 1 (1 ∷ 2 ∷ []) 1) }
+    ensures left { (p q : Pipeline) (n : ℕ) → p.waiting ≡ 1 ∷ 1 ∷ 2 ∷ [] → p.ready ≡ 2 → Enacts p (Some n) q
+        → (n ≡ 1) × (q.waiting ≡ 1 ∷ 2 ∷ []) × (q.ready ≡ 1) × (q.numbers.enacted ≡ 1) }
+    ensures some { (p q : Pipeline) → p.ready ≡ 2 → Enacts p None q → ⊥ }
+    ensures none { (p q : Pipeline) (n : ℕ) → p.ready ≡ 0 → Enacts p (Some n) q → ⊥ }
 {}

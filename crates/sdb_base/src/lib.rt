@@ -27,19 +27,21 @@ mod op;
 mod pair;
 mod plan;
 mod progress;
+mod value_limit;
 
 pub use block::{Block, BlockId, Prepared};
 pub use bytes::{ByteString, Bytes};
 pub use change::{Change, Changes};
 pub use items::{Items, Sequence, TryCopy, Typed};
 pub use keeper::{Keeper, Stages};
-pub use laws::{known_contents, operations_apply_in_order};
+pub use laws::{known_contents, known_stages, operations_apply_in_order};
 pub use map_keeper::MapKeeper;
 pub use nibbles::{NibbleString, Nibbles};
 pub use node::{HashList, Node, NodeHash, NodeList};
 pub use numbers::{Counter, Grown, KeepFault, KeeperCall, Logged, Numbers, StageAnswer};
 pub use op::{Op, Ops};
 pub use pair::{Pair, Pairs};
+pub use value_limit::too_long_value;
 
 /// A list of texts, as the words of a command line.
 pub type Words = Items<Bytes>;

@@ -3,8 +3,9 @@ ghost use Rattle.std.specs.Option.{option_map};
 ghost use Rattle.sdb_io.specs.Faults.{CountsFault};
 ghost use Rattle.sdb_base.specs.Content.{Counted, meta_under, node_under};
 ghost use Rattle.sdb_base.specs.Keeping.{Commits, HasShortKey, IsCause, IsCommitCause, IsMetaAnswer, IsNodeAnswer, disk_failed, most_in_plain_key, operations};
-ghost use Rattle.sdb_base.specs.MapKeeping.{AddsCommits, CountsCall, FailsNext, IsRefusalOf, KeepsCommits, NeverFalls, failed_keeper_calls, first_too_long, keeper_calls, keeper_calls_to_fail, kept_meta, kept_node, kept_pipeline, value_length};
+ghost use Rattle.sdb_base.specs.MapKeeping.{AddsCommits, CountsCall, FailsNext, IsRefusalOf, KeepsCommits, NeverFalls, failed_keeper_calls, keeper_calls, keeper_calls_to_fail, kept_meta, kept_node, kept_pipeline};
 ghost use Rattle.sdb_base.specs.Pipeline.{StepsUncrowded, with_commit};
+ghost use Rattle.sdb_base.specs.TooLong.{first_too_long};
 ghost use Rattle.sdb_base.specs.declared.numbers.KeepFault.TheVariants as faults;
 ghost use Rattle.sdb_base.specs.declared.numbers.StageAnswer.TheVariants as answers;
 
@@ -14,13 +15,11 @@ use crate::columns::Columns;
 use crate::keeper::{Keeper, Stages};
 use crate::node::NodeHash;
 use crate::numbers::{Grown, KeepFault, Logged, Numbers};
-use crate::op::{Op, Ops};
+use crate::op::Ops;
 use crate::plan::Plan;
 use crate::progress::Progress;
+use crate::value_limit::too_long_value;
 use std::alloc::Global;
-
-// at most so many bytes in a value
-const MOST_IN_VALUE: usize = 8_388_608;
 
 /// A keeper of commits in memory. It never makes a read, and no fault is ever due.
 #[derive(Drop)]
@@ -154,7 +153,7 @@ impl Keeper for MapKeeper {
         ensures call { CountsCall self.old self.new }
     {
         self.plan.begin()?;
-        if let Some(len) = too_long(ops.as_slice()) {
+        if let Some(len) = too_long_value(&ops) {
             return Err(KeepFault::ValueTooLong { len });
         }
         if self.progress.numbers().accepted == u64::MAX {
@@ -284,28 +283,5 @@ impl Stages for MapKeeper {
     {
         self.plan.begin()?;
         Ok(Grown::Idle)
-    }
-}
-
-// The length of the first value that is too long.
-fn too_long(ops: &[Op]) -> Option<u64>
-    ensures { result ≡ first_too_long ops.now }
-{
-    for op in ops {
-        let len = length_of_value(op);
-        if len > MOST_IN_VALUE {
-            return Some(len as u64);
-        }
-    }
-    None
-}
-
-// How many bytes the operation's value has.
-fn length_of_value(op: &Op) -> usize
-    ensures { result ≡ value_length op.now }
-{
-    match op {
-        Op::AddRef { bytes, .. } | Op::Put { bytes, .. } => bytes.len(),
-        Op::DropRef { .. } | Op::Erase { .. } => 0,
     }
 }

@@ -59,7 +59,7 @@ impl Progress {
         Logged::Commit(self.numbers.logged)
     }
 
-    #[tactic(auto, using(crate::proofs::Records::up_to_length))]
+    #[tactic(auto, using(crate::proofs::Records::waiting_length))]
     /// Flushes what is logged, and answers how many commits that are.
     pub(crate) fn flush(&mut self) -> u64
         ensures steps { StepsUncrowded (uncrowded self.old.numbers) (answers.Flushed result) (uncrowded self.new.numbers) }
@@ -69,7 +69,6 @@ impl Progress {
         self.numbers.flushed
     }
 
-    #[tactic(auto, using(crate::proofs::Records::up_to_item))]
     /// Enacts the oldest flushed record that isn't enacted, and answers its number of commits.
     pub(crate) fn enact(&mut self) -> Option<u64>
         ensures steps { StepsUncrowded (uncrowded self.old.numbers) (answers.Enacted result) (uncrowded self.new.numbers) }

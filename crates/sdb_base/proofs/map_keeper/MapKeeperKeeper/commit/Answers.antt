@@ -1,14 +1,14 @@
 use Rattle.std.proofs.Common.{◌≡◌, ◌+◌, Some, inr, refl, ap, sym, ◌∙◌, arith}
 use Rattle.sdb_base.specs.Content.{meta_from, node_from}
-use Rattle.sdb_base.specs.MapKeeping.{first_too_long}
 use Rattle.sdb_base.specs.Pipeline.{Pipeline}
+use Rattle.sdb_base.specs.TooLong.{first_too_long}
 use Rattle.sdb_base.proofs.Commits.{count_more, meta_more, node_more}
 use Rattle.sdb_base.proofs.TooLong.{too_long_is_there}
 use Rattle.sdb_base.proofs.map_keeper.MapKeeperKeeper.commit.Goals as goal
 
 pub returns-in-Some-clause-cause : goal.returns-in-Some-clause-cause
 returns-in-Some-clause-cause c =
-    let found : first_too_long c.args.ops ≡ Some c.in-Some.len = grind (arith, c.in-Some.ensures, c.as_slice.ensures) in
+    let found : first_too_long c.args.ops ≡ Some c.in-Some.len = grind (arith, c.in-Some.ensures) in
     let there = too_long_is_there c.args.ops c.in-Some.len found in
     inr (c.in-Some.len, refl, there.0, there.1)
 

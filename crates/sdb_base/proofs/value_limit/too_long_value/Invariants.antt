@@ -1,6 +1,6 @@
 use Rattle.std.proofs.Common.{◌≡◌, drop}
-use Rattle.sdb_base.specs.MapKeeping.{first_too_long}
-use Rattle.sdb_base.proofs.map_keeper.too_long.Given as goal
+use Rattle.sdb_base.specs.TooLong.{first_too_long}
+use Rattle.sdb_base.proofs.value_limit.too_long_value.Given as goal
 
 -- the operations so far have no such value
 abbrev pub invariant-loop-op : goal.invariant-loop-op
