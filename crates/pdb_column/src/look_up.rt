@@ -35,6 +35,7 @@ fn read_at<C: Cells>(
     ensures reads { MatchResult result
         (λ found. C.read_count c.new ≤ C.read_count c.old + (if found then slots_of (length out.new.items) else 1))
         (λ e. C.read_count c.new ≤ C.read_count c.old + slots_of 8388608) }
+    ensures most { C.read_count c.new ≤ C.read_count c.old + slots_of 8388608 }
     ensures stays { (cells : Content) → C.seen c.old ≡ Some cells → C.seen c.new ≡ Some cells }
     ensures left { (cells : Content) → C.seen c.old ≡ Some cells → IfOk result (λ found. IsFalse found
         → out.new.items ≡ out.old.items) }
@@ -65,6 +66,7 @@ fn look_up<C: Cells>(
     ensures reads { MatchResult result
         (λ found. C.read_count c.new ≤ C.read_count c.old + (if found then 64 + slots_of (length out.new.items) else 65))
         (λ e. C.read_count c.new ≤ C.read_count c.old + (64 + slots_of 8388608)) }
+    ensures most { C.read_count c.new ≤ C.read_count c.old + (64 + slots_of 8388608) }
     ensures got { (cells : Content) (base : ℕ) (content : ColumnMap) → C.seen c.old ≡ Some cells
         → HoldsColumn cells column base content
         → IfOk result (IsGot (content key.now) out.old.items out.new.items) }
@@ -103,6 +105,7 @@ pub fn get<C: Cells>(
     ensures reads { MatchResult result
         (λ found. C.read_count c.new ≤ C.read_count c.old + (if found then 64 + slots_of (length out.new.items) else 65))
         (λ e. C.read_count c.new ≤ C.read_count c.old + (64 + slots_of 8388608)) }
+    ensures most { C.read_count c.new ≤ C.read_count c.old + (64 + slots_of 8388608) }
     ensures got { (cells : Content) (base : ℕ) (content : ColumnMap) → C.seen c.old ≡ Some cells
         → HoldsColumn cells column base content
         → IfOk result (IsGot (content key.now) out.old.items out.new.items) }

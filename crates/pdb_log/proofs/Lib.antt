@@ -13,6 +13,7 @@ pub mod Turns
 pub mod Beside
 pub mod Cells
 pub mod Passes
+pub mod Times
 pub mod Gates
 pub mod Cleans
 pub mod Clears

@@ -2,3 +2,4 @@ pub mod Ledger
 pub mod Answers
 pub mod Standing
 pub mod Recovered
+pub mod Elapsed

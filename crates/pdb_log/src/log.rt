@@ -64,6 +64,7 @@ impl<D: Disk> Log<D> {
     ghost use Rattle.pdb_model.specs.Recovery.{Row, Safe};
     ghost use Rattle.pdb_log.specs.Answers.{log_disk_fails};
     ghost use Rattle.pdb_log.specs.Ledger.{AreRows, IsEmptyFile, IsKeptGate, IsNextGate, IsPassed, Ledger, records_flushed, appended, cleared, emptied, file_synced, files_cleared, files_synced, fresh_ledger, passed, row_after};
+    ghost use Rattle.pdb_log.specs.Elapsed.{TimeGoesOn};
     ghost use Rattle.pdb_log.specs.Standing.{IsCellAt, IsLog, LeavesCells, end_of_log, next_gate, next_in_ring, next_record, turned, turns};
 
     /// The log after a gate that is in force, where all log files are empty.
@@ -114,6 +115,7 @@ impl<D: Disk> Log<D> {
             × (most_in_log < end_of_log self.old + length (record_bytes (next_record self.old commits puts.now)))) }
         ensures ends { (which : Counter) → IsErrOf result (LogFault.NumbersEnd which) → (which ≡ Counter.Records) ⊎ (which ≡ Counter.LogBytes) }
         ensures aside { LeavesCells D.tells D.clock D.past self.old.disk self.new.disk }
+        ensures goes_on { TimeGoesOn D.clock D.past self.old.disk self.new.disk }
         ensures counted { CountsFault (log_disk_fails result) (D.fault_count self.old.disk) (D.fault_count self.new.disk) }
     {
         if self.number == u64::MAX {
@@ -174,6 +176,7 @@ impl<D: Disk> Log<D> {
         ensures any_moment { (l : Ledger) → (rows : List Row) → (f : ℕ) → IsLog D.tells D.clock D.past self.old l rows f
             → Moments (D.clock self.old.disk) (D.clock self.new.disk) (D.past self.old.disk) (D.past self.new.disk) (Safe rows f) }
         ensures aside { LeavesCells D.tells D.clock D.past self.old.disk self.new.disk }
+        ensures goes_on { TimeGoesOn D.clock D.past self.old.disk self.new.disk }
         ensures counted { CountsFault (is_err result) (D.fault_count self.old.disk) (D.fault_count self.new.disk) }
     {
         match self.disk.sync(file) {
@@ -194,6 +197,7 @@ impl<D: Disk> Log<D> {
             → Moments (D.clock self.old.disk) (D.clock self.new.disk) (D.past self.old.disk) (D.past self.new.disk) (Safe rows f) }
         ensures idle { slice_index self.old.ends file ≤ slice_index self.old.synced file → self.new ≡ self.old }
         ensures aside { LeavesCells D.tells D.clock D.past self.old.disk self.new.disk }
+        ensures goes_on { TimeGoesOn D.clock D.past self.old.disk self.new.disk }
         ensures counted { CountsFault (is_err result) (D.fault_count self.old.disk) (D.fault_count self.new.disk) }
     {
         if self.synced[file as usize] < self.ends[file as usize] {
@@ -212,6 +216,7 @@ impl<D: Disk> Log<D> {
         ensures idle { (l : Ledger) → (rows : List Row) → (f : ℕ) → IsLog D.tells D.clock D.past self.old l rows f
             → ((j : ℕ) → IsLogFile j → (l.segments j).pending ≡ []) → self.new ≡ self.old }
         ensures aside { LeavesCells D.tells D.clock D.past self.old.disk self.new.disk }
+        ensures goes_on { TimeGoesOn D.clock D.past self.old.disk self.new.disk }
         ensures counted { CountsFault (is_err result) (D.fault_count self.old.disk) (D.fault_count self.new.disk) }
     {
         self.sync_records(1)?;
@@ -233,6 +238,7 @@ impl<D: Disk> Log<D> {
             → Moments (D.clock self.old.disk) (D.clock self.new.disk) (D.past self.old.disk) (D.past self.new.disk) (Safe rows f) }
         ensures number { self.new.number ≡ self.old.number }
         ensures aside { LeavesCells D.tells D.clock D.past self.old.disk self.new.disk }
+        ensures goes_on { TimeGoesOn D.clock D.past self.old.disk self.new.disk }
         ensures gate { OnOk result (self.new.gate ≡ g) }
         ensures counted { CountsFault (is_err result) (D.fault_count self.old.disk) (D.fault_count self.new.disk) }
     {
@@ -263,6 +269,7 @@ impl<D: Disk> Log<D> {
             → Moments (D.clock self.old.disk) (D.clock self.new.disk) (D.past self.old.disk) (D.past self.new.disk) (Safe rows f) }
         ensures number { self.new.number ≡ self.old.number }
         ensures aside { LeavesCells D.tells D.clock D.past self.old.disk self.new.disk }
+        ensures goes_on { TimeGoesOn D.clock D.past self.old.disk self.new.disk }
         ensures gate { self.new.gate ≡ self.old.gate }
         ensures counted { CountsFault (is_err result) (D.fault_count self.old.disk) (D.fault_count self.new.disk) }
     {
@@ -289,6 +296,7 @@ impl<D: Disk> Log<D> {
             → Moments (D.clock self.old.disk) (D.clock self.new.disk) (D.past self.old.disk) (D.past self.new.disk) (Safe rows f) }
         ensures number { self.new.number ≡ self.old.number }
         ensures aside { LeavesCells D.tells D.clock D.past self.old.disk self.new.disk }
+        ensures goes_on { TimeGoesOn D.clock D.past self.old.disk self.new.disk }
         ensures gate { self.new.gate ≡ self.old.gate }
         ensures counted { CountsFault (is_err result) (D.fault_count self.old.disk) (D.fault_count self.new.disk) }
     {
@@ -313,6 +321,7 @@ impl<D: Disk> Log<D> {
             → IsNextGate rows f (D.past self.old.disk (D.clock self.old.disk)) l (next_gate self.old number commits) dropped flushed
             → Moments (D.clock self.old.disk) (D.clock self.new.disk) (D.past self.old.disk) (D.past self.new.disk) (Safe rows f) }
         ensures aside { LeavesCells D.tells D.clock D.past self.old.disk self.new.disk }
+        ensures goes_on { TimeGoesOn D.clock D.past self.old.disk self.new.disk }
         ensures gate { OnOk result (self.new.gate ≡ next_gate self.old number commits) }
         ensures counted { CountsFault (is_err result) (D.fault_count self.old.disk) (D.fault_count self.new.disk) }
     {

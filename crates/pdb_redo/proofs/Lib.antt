@@ -17,12 +17,15 @@ pub mod Carried
 pub mod CellSizes
 pub mod Emptied
 pub mod Enacted
+pub mod Kept
 pub mod Layers
+pub mod Marked
 pub mod Marks
 pub mod OpenReads
 pub mod Opened
 pub mod Passed
 pub mod PutHeads
+pub mod Reached
 pub mod ReadBelow
 pub mod Redos
 pub mod SameRest

@@ -5,7 +5,7 @@ use Rattle.std.specs.Option.{unwrap_or}
 use Rattle.std.proofs.lemmas.Option.{same_Some}
 use Rattle.std.proofs.lemmas.List.{take-append-le}
 use Rattle.pdb_cells.specs.Sizes.{size_of}
-use Rattle.pdb_disk.specs.Files.{FileState, Files, IsImage, IsSynced, reads_of}
+use Rattle.pdb_disk.specs.Files.{FileState, Files, Image, IsSynced, reads_of}
 use Rattle.pdb_log.specs.Ledger.{IsRowAt, Ledger, Segment, file_synced, files_synced, records_flushed, records_of}
 use Rattle.pdb_log.specs.Standing.{IsLog}
 use Rattle.pdb_log.proofs.Ledgers.{each_segment}
@@ -129,13 +129,16 @@ module _ {D : Type 0} (tells : D → Bool) (clock : D → ℕ) (past : D → ℕ
   last_cells r rows f row is there = is.1.last row (ap (slice_get rows) (at_last r is.0 rows f is.1) ∙ there)
 
   -- the commits of the last row
-  pub last_commits : (r : Redo D) (rows : List Row) (f : ℕ) (row : Row) → IsImage (now_of r) (reads_of (now_of r)) → IsStanding tells clock past r rows f → slice_get rows (length rows - 1) ≡ Some row
-      → r.appended.commits ≡ row.commits
-  last_commits r rows f row image is there =
+  pub last_commits : (r : Redo D) (rows : List Row) (f : ℕ) (row : Row) → IsStanding tells clock past r rows f → slice_get rows (length rows - 1) ≡ Some row → r.appended.commits ≡ row.commits
+  last_commits r rows f row is there =
       ap (λ (m : Mark). m.commits) is.1.appended
       ∙ ap (λ (rs : List Record). commits_after is.0.gate.commits (is.0.flushed ++ rs)) (sym (take_all (length is.0.rest) is.0.rest (omega arith)))
       ∙ sym at.commits
       ∙ ap (λ (w : Row). w.commits) (same_Some at.row row (sym at.there ∙ ap (slice_get rows) (at_last r is.0 rows f is.1) ∙ there))
     where
-      at : IsRowAt rows (f + length is.0.rest) (reads_of (now_of r)) is.0.gate (is.0.flushed ++ take (length is.0.rest) is.0.rest)
-      at = is.1.log.are (length is.0.rest) (omega arith) (reads_of (now_of r)) image
+      -- what each file keeps is what a crash may leave of it
+      kept : Image
+      kept j = (now_of r j).kept
+
+      at : IsRowAt rows (f + length is.0.rest) kept is.0.gate (is.0.flushed ++ take (length is.0.rest) is.0.rest)
+      at = is.1.log.are (length is.0.rest) (omega arith) kept (λ j i spared. refl)

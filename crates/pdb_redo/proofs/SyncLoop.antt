@@ -5,13 +5,14 @@ use Rattle.std.proofs.lemmas.Bool.{cases_eq}
 use Rattle.std.proofs.lemmas.List.{length-set}
 use Rattle.std.proofs.lemmas.Option.{slice_get-get_or}
 use Rattle.pdb_cells.specs.Sizes.{size_of}
-use Rattle.pdb_disk.specs.Files.{FileState, Files, IsSynced, Settles}
+use Rattle.pdb_disk.specs.Files.{Elapses, FileState, Files, IsSynced, Settles}
 use Rattle.pdb_disk.proofs.Calls.{joined, no_call}
 use Rattle.pdb_disk.specs.Moments.{Moments}
 use Rattle.pdb_log.specs.Ledger.{Ledger}
 use Rattle.pdb_log.specs.Standing.{IsLog}
 use Rattle.pdb_log.specs.declared.log.Log.{Log}
 use Rattle.pdb_log.proofs.Logs.{safe_now}
+use Rattle.pdb_log.proofs.Times.{time_itself, time_of_call, time_then}
 use Rattle.pdb_model.specs.Recovery.{Row, Safe}
 use Rattle.pdb_redo.specs.inner.Writing.{Passes, SettlesMarked, files_now}
 use Rattle.pdb_redo.proofs.CellSizes.{sized_file}
@@ -24,6 +25,7 @@ module _ {D : Type 0} (tells : D → Bool) (clock : D → ℕ) (past : D → ℕ
     stands = λ l rows f is. is;
     moments = λ l rows f is. no_call (clock log.disk) (past log.disk) (Safe rows f) (safe_now tells clock past log l rows f is);
     told = λ t. t;
+    goes_on = time_itself clock past log.disk;
     read = λ t j. refl;
   }
 
@@ -34,6 +36,7 @@ module _ {D : Type 0} (tells : D → Bool) (clock : D → ℕ) (past : D → ℕ
     moments = λ l rows f is. joined (clock old.disk) (clock mid.disk) (clock new.disk) (past old.disk) (past mid.disk) (past new.disk) (Safe rows f)
         (a.moments l rows f is) (b.moments l rows f (a.stands l rows f is));
     told = λ t. b.told (a.told t);
+    goes_on = time_then clock past old.disk mid.disk new.disk a.goes_on b.goes_on;
     read = λ t j. b.read (a.told t) j ∙ a.read t j;
   }
 
@@ -78,9 +81,11 @@ module _ {D : Type 0} (tells : D → Bool) (clock : D → ℕ) (past : D → ℕ
   pub sync_passes : (old new : Log D) → new ≡ record old { disk = new.disk }
       → ((l : Ledger) (rows : List Row) (f : ℕ) → IsLog tells clock past old l rows f → IsLog tells clock past new l rows f)
       → ((l : Ledger) (rows : List Row) (f : ℕ) → IsLog tells clock past old l rows f → Moments (clock old.disk) (clock new.disk) (past old.disk) (past new.disk) (Safe rows f))
-      → (IsTrue (tells old.disk) → IsTrue (tells new.disk)) → (IsTrue (tells old.disk) → (j : ℕ) → (files_now clock past new j).read ≡ (files_now clock past old j).read)
+      → (IsTrue (tells old.disk) → IsTrue (tells new.disk)) → Elapses (clock old.disk) (clock new.disk) (past old.disk) (past new.disk)
+      → (IsTrue (tells old.disk) → (j : ℕ) → (files_now clock past new j).read ≡ (files_now clock past old j).read)
       → Passes tells clock past old new
-  sync_passes old new rest stands moments told read = record { rest = rest; stands = stands; moments = moments; told = told; read = read }
+  sync_passes old new rest stands moments told time read =
+      record { rest = rest; stands = stands; moments = moments; told = told; goes_on = time_of_call clock past old.disk new.disk time; read = read }
 
   module _ (faults : D → ℕ) where
     -- the loop has come to this file

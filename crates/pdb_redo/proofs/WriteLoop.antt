@@ -17,6 +17,7 @@ use Rattle.pdb_disk.proofs.Calls.{joined, no_call}
 use Rattle.pdb_log.specs.Standing.{IsCellAt}
 use Rattle.pdb_log.specs.declared.log.Log.{Log}
 use Rattle.pdb_log.proofs.Logs.{safe_now}
+use Rattle.pdb_log.proofs.Times.{time_itself, time_then}
 use Rattle.pdb_model.specs.Recovery.{Safe, cells_of_files}
 use Rattle.pdb_redo.specs.inner.Writing.{AreDone, IsDone, Writes, WritesAll, cells_now, files_now}
 use Rattle.pdb_redo.proofs.Layers.{puts_alike}
@@ -67,6 +68,7 @@ module _ {D : Type 0} (tells : D → Bool) (clock : D → ℕ) (past : D → ℕ
     stands = λ l rows f r is has sub. is;
     moments = λ l rows f r is has sub. no_call (clock log.disk) (past log.disk) (Safe rows f) (safe_now tells clock past log l rows f is);
     told = λ t. t;
+    goes_on = time_itself clock past log.disk;
     beside = λ t name none. refl;
   }
 
@@ -80,6 +82,7 @@ module _ {D : Type 0} (tells : D → Bool) (clock : D → ℕ) (past : D → ℕ
         (a.moments l rows f r is has (λ p h. sub p (Contains-append_left ps qs p h)))
         (b.moments l rows f r (a.stands l rows f r is has (λ p h. sub p (Contains-append_left ps qs p h))) has (λ p h. sub p (Contains-append_right ps qs p h)));
     told = λ t. b.told (a.told t);
+    goes_on = time_then clock past old.disk mid.disk new.disk a.goes_on b.goes_on;
     beside = λ t name none.
         let e = sym (last-append ps qs name) ∙ none in
         b.beside (a.told t) name (none_left (last_put qs name) (last_put ps name) e) ∙ a.beside t name (none_right (last_put qs name) (last_put ps name) e);
@@ -92,6 +95,7 @@ module _ {D : Type 0} (tells : D → Bool) (clock : D → ℕ) (past : D → ℕ
     stands = λ l rows f r is has sub. a.stands l rows f r is has (λ p h. sub p (Contains-append_left ps qs p h));
     moments = λ l rows f r is has sub. a.moments l rows f r is has (λ p h. sub p (Contains-append_left ps qs p h));
     told = a.told;
+    goes_on = a.goes_on;
     beside = λ t name none. a.beside t name (none_right (last_put qs name) (last_put ps name) (sym (last-append ps qs name) ∙ none));
   }
 

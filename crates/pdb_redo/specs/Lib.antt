@@ -4,5 +4,6 @@ pub mod Creating
 pub mod Heads
 pub mod Opening
 pub mod Places
+pub mod Reaches
 pub mod Standing
 pub mod inner

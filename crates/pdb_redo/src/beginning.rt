@@ -1,4 +1,4 @@
-ghost use Rattle.std.specs.Prelude.{◌≡◌, ◌∷◌, [], IsTrue};
+ghost use Rattle.std.specs.Prelude.{◌≡◌, ◌∷◌, [], IsTrue, None};
 ghost use Rattle.pdb_log.specs.Recovered.{IsRecovered};
 ghost use Rattle.pdb_model.specs.Files.{head_cell};
 ghost use Rattle.pdb_model.specs.Recovery.{Row};
@@ -12,6 +12,7 @@ use pdb_record::GateSlot;
 use std::alloc::Global;
 
 impl<D: Disk> Redo<D> {
+    ghost use Rattle.pdb_redo.specs.Reaches.{reach_at, reach_of};
     ghost use Rattle.pdb_redo.specs.Standing.{IsStanding};
 
     /// A session over a disk whose gate is in force and whose log files are empty.
@@ -20,6 +21,8 @@ impl<D: Disk> Redo<D> {
             → heads.first ≡ head_cell row.cells 0 → heads.second ≡ head_cell row.cells 1
             → IsStanding D.tells D.clock D.past result (row ∷ []) 0 }
         ensures disk { result.log.disk ≡ disk }
+        ensures reach { reach_of result ≡ reach_at gate.commits }
+        ensures running { result.stopped ≡ None }
     {
         let reads = disk.reads();
         let mark = Mark {

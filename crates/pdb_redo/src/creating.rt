@@ -1,4 +1,4 @@
-ghost use Rattle.std.specs.Prelude.{◌≡◌, ◌≤◌, ◌<◌, ◌∷◌, [], ℕ, true, false, IfOk, IsTrue, IfErr, MatchResult, OnOk, OnErr, is_err};
+ghost use Rattle.std.specs.Prelude.{◌≡◌, ◌≤◌, ◌<◌, ◌∷◌, [], ℕ, true, false, IfOk, IsTrue, IfErr, MatchResult, None, OnOk, OnErr, is_err};
 ghost use Rattle.sdb_io.specs.Faults.{CountsFault};
 ghost use Rattle.pdb_cells.specs.Sizes.{head_file};
 ghost use Rattle.pdb_disk.specs.Files.{Image, IsImage, reads_of};
@@ -164,6 +164,7 @@ fn create_files<D: Disk>(disk: &mut D, base: u8) -> Result<(), CreateCause>
 }
 
 impl<D: Disk> Redo<D> {
+    ghost use Rattle.pdb_redo.specs.Reaches.{reach_at, reach_of};
     ghost use Rattle.pdb_redo.specs.Standing.{IsStanding};
 
     /// Makes a database without keys on a disk; both columns have this base, at most 16. `Occupied` comes exactly where a gate
@@ -175,6 +176,8 @@ impl<D: Disk> Redo<D> {
         ensures created { IsTrue (D.tells disk) → IfOk result (λ r. IsStanding D.tells D.clock D.past r (new_row base ∷ []) 0) }
         ensures free { IsTrue (D.tells disk) → OnOk result (HasNoGate (reads_of (D.past disk (D.clock disk)))) }
         ensures causes { IsTrue (D.tells disk) → IfErr result (λ e. CreateSays (reads_of (D.past disk (D.clock disk))) e.fault) }
+        ensures reach { IfOk result (λ r. reach_of r ≡ reach_at 0) }
+        ensures running { IfOk result (λ r. r.stopped ≡ None) }
         ensures told { IsTrue (D.tells disk) → IsTrue (D.tells (created_disk result)) }
         ensures counted { CountsFault (create_disk_fails result) (D.fault_count disk) (D.fault_count (created_disk result)) }
     {

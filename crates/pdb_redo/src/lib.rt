@@ -25,10 +25,12 @@ mod heads;
 mod opening;
 mod places;
 mod queue;
+mod recorded;
 mod redo_cells;
 mod redo_log;
 mod waiting;
 
 pub use fault::{CreateCause, CreateFault, RedoFault};
 pub use pdb_recover::{OpenCause, OpenFault};
+pub use recorded::Recorded;
 pub use redo_log::Redo;

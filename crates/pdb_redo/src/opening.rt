@@ -1,4 +1,4 @@
-ghost use Rattle.std.specs.Prelude.{◌≡◌, ◌∷◌, [], ℕ, List, IfErr, IfOk, IsTrue, OnOk, is_err};
+ghost use Rattle.std.specs.Prelude.{◌≡◌, ◌∷◌, [], ℕ, List, IfErr, IfOk, IsTrue, None, OnOk, is_err};
 ghost use Rattle.sdb_io.specs.Faults.{CountsFault};
 ghost use Rattle.pdb_disk.specs.Files.{reads_of};
 ghost use Rattle.pdb_disk.specs.Moments.{Moments};
@@ -35,6 +35,7 @@ fn read_heads<D: Disk>(disk: &mut D) -> Result<Heads, DiskFault>
 
 impl<D: Disk> Redo<D> {
     ghost use Rattle.pdb_model.specs.Recovery.{Laid, Row, Safe, TearClear};
+    ghost use Rattle.pdb_redo.specs.Reaches.{reach_at, reach_of};
     ghost use Rattle.pdb_redo.specs.Standing.{IsStanding};
 
     /// Opens the database on a disk, as a crash left it or not, by recovering it. The causes of a refusal are those of
@@ -49,6 +50,8 @@ impl<D: Disk> Redo<D> {
         ensures laid { IsTrue (D.tells disk) → OnOk result ((row : Row) × Laid (reads_of (D.past disk (D.clock disk))) row) }
         ensures no_end { IsTrue (D.tells disk) → OnOk result (¬ GatesEnd (reads_of (D.past disk (D.clock disk)))) }
         ensures causes { IsTrue (D.tells disk) → IfErr result (λ e. OpenSays (reads_of (D.past disk (D.clock disk))) e.fault) }
+        ensures reach { IfOk result (λ r. (n : ℕ) × (reach_of r ≡ reach_at n)) }
+        ensures running { IfOk result (λ r. r.stopped ≡ None) }
         ensures told { IsTrue (D.tells disk) → IsTrue (D.tells (opened_disk result)) }
         ensures counted { CountsFault (open_disk_fails_of result) (D.fault_count disk) (D.fault_count (opened_disk result)) }
     {

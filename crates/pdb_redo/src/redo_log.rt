@@ -1,21 +1,23 @@
-ghost use Rattle.std.specs.Prelude.{◌≡◌, ◌≢◌, ◌≤◌, ◌<◌, ◌+◌, ◌-◌, ◌*◌, ◌^◌, ◌++◌, ◌↔◌, ℕ, List, [], ◌∷◌, All, IfErr, IfOk, IsErr, IsErrOf, IsTrue, MatchOption, None, OnErr, OnOk, Ok, Err, Some, false, true, is_err, length, set, slice_get};
+ghost use Rattle.std.specs.Prelude.{◌≡◌, ◌≢◌, ◌⊎◌, ◌≤◌, ◌<◌, ◌+◌, ◌-◌, ◌*◌, ◌^◌, ◌++◌, ◌↔◌, ℕ, List, [], ◌∷◌, All, IfErr, IfOk, IsErr, IsErrOf, IsTrue, MatchOption, MatchResult, None, OnErr, OnOk, Ok, Err, Some, false, true, is_err, length, set, slice_get};
 ghost use Rattle.sdb_io.specs.Faults.{CountsFault};
 ghost use Rattle.pdb_cells.specs.Puts.{IsWholeCell, NoCellTwice};
 ghost use Rattle.pdb_cells.specs.Sizes.{size_of};
 ghost use Rattle.pdb_disk.specs.Files.{Files};
 ghost use Rattle.pdb_disk.specs.Moments.{Moments};
+ghost use Rattle.pdb_log.specs.Elapsed.{TimeGoesOn};
 ghost use Rattle.pdb_log.specs.Ledger.{IsEmptyFile, row_after};
 ghost use Rattle.pdb_model.specs.Logs.{IsLogFile, most_in_log};
 ghost use Rattle.pdb_log.specs.Standing.{end_of_log};
 ghost use Rattle.pdb_model.specs.Records.{Record, body_bytes, record_bytes};
 ghost use Rattle.pdb_model.specs.Recovery.{Row, Safe};
 ghost use Rattle.pdb_redo.specs.Backlogs.{HasPlaceFor, records_in};
-ghost use Rattle.pdb_redo.specs.inner.Carrying.{EndAt, HaveWholeCells, heads_laid};
+ghost use Rattle.pdb_redo.specs.inner.Carrying.{AreMarked, EndAt, HaveWholeCells, heads_laid};
 ghost use Rattle.pdb_redo.specs.inner.Writing.{AreDone, IsDone, MarksOthers, Passes, SettlesMarked, Writes, WritesAll};
 
 use crate::backlog::Backlog;
 use crate::fault::RedoFault;
 use crate::heads::Heads;
+use crate::recorded::Recorded;
 use crate::waiting::Waiting;
 use pdb_cells::{CellName, HEAD_FILE, Put, Puts};
 use pdb_disk::{Disk, DiskFault};
@@ -60,6 +62,8 @@ pub struct Redo<D> {
     // whatever the disk tells, each record that waits puts whole cells, and the last one that was appended is the last one
     ghost whole: { HaveWholeCells (records_in backlog) },
     ghost last: { EndAt (records_in backlog) appended.number },
+    // these records have the numbers after the enacted one up to the appended one, and the flushed one is between the two
+    ghost marked: { AreMarked enacted.number flushed.number appended.number (records_in backlog) },
 }
 
 /// Whether the body of a record of these puts has at most 2^62 bytes.
@@ -158,6 +162,7 @@ fn put_heads(heads: &mut Heads, puts: &[Put])
 
 impl<D: Disk> Redo<D> {
     ghost use Rattle.pdb_redo.specs.Answers.{IsOfAppending, IsOfCleaning, IsOfFlushing, IsOfRedoRead, StopsAt, redo_disk_fails};
+    ghost use Rattle.pdb_redo.specs.Reaches.{Advances, RedoGoesOn, all_ready, reach_of, with_logged};
     ghost use Rattle.pdb_redo.specs.Standing.{IsStanding, KeepsRedo, cells_under_records, next_redo_record, KeepsCells};
 
     /// Fills `into` with a cell of the last row: its bytes in the newest record that puts it, else those in its file. It
@@ -209,8 +214,11 @@ impl<D: Disk> Redo<D> {
         ensures number { IfOk result (λ n. n ≡ self.old.appended.number + 1) }
         ensures refused { OnErr result (redo_disk_fails result ≡ false → (self.new.log ≡ self.old.log) × (self.new.stopped ≡ self.old.stopped)
             × ((rows : List Row) (f : ℕ) → IsStanding D.tells D.clock D.past self.old rows f → IsStanding D.tells D.clock D.past self.new rows f)) }
+        ensures last { OnErr result (self.new.appended ≡ self.old.appended) }
         ensures records_end { (rows : List Row) (f : ℕ) → IsStanding D.tells D.clock D.past self.old rows f
             → (IsErrOf result (RedoFault.NumbersEnd Counter.Records) ↔ (self.old.appended.number ≡ 2 ^ 64 - 1)) }
+        ensures records_cause { IsErrOf result (RedoFault.NumbersEnd Counter.Records)
+            → (self.old.appended.number ≡ 2 ^ 64 - 1) ⊎ (self.old.log.number ≡ 2 ^ 64 - 1) }
         ensures bytes_end { IsErrOf result (RedoFault.NumbersEnd Counter.LogBytes)
             → most_in_log < end_of_log self.old.log + length (record_bytes (next_redo_record self.old commits puts)) }
         ensures fits { OnOk result (end_of_log self.old.log + length (record_bytes (next_redo_record self.old commits puts)) ≤ most_in_log) }
@@ -218,6 +226,8 @@ impl<D: Disk> Redo<D> {
         ensures stopped { (call : ℕ) → self.old.stopped ≡ Some call → (result ≡ Err (RedoFault.Stopped call)) × (self.new ≡ self.old) }
         ensures stops { self.old.stopped ≡ None → StopsAt (D.clock self.new.log.disk) self.new.stopped result }
         ensures cells { IsTrue (D.tells self.old.log.disk) → IsErr result → KeepsCells D.clock D.past self.old self.new }
+        ensures reach { MatchResult result (λ _. reach_of self.new ≡ with_logged (reach_of self.old) commits) (λ _. reach_of self.new ≡ reach_of self.old) }
+        ensures goes_on { RedoGoesOn D.clock D.past self.old self.new }
         ensures told { IsTrue (D.tells self.old.log.disk) → IsTrue (D.tells self.new.log.disk) }
         ensures counted { CountsFault (redo_disk_fails result) (D.fault_count self.old.log.disk) (D.fault_count self.new.log.disk) }
     {
@@ -259,6 +269,7 @@ impl<D: Disk> Redo<D> {
         ensures waiting { records_in self.new.backlog ≡ records_in self.old.backlog ++ next_redo_record self.old commits puts ∷ [] }
         ensures heads { self.new.heads ≡ heads_laid self.old.heads puts }
         ensures appended { self.new.appended ≡ record { number = self.old.appended.number + 1; commits = commits } }
+        ensures reads { self.new.reads ≡ self.old.reads }
         ensures number { result ≡ self.old.appended.number + 1 }
     {
         put_heads(&mut self.heads, puts.as_slice());
@@ -294,6 +305,9 @@ impl<D: Disk> Redo<D> {
         ensures stopped { (call : ℕ) → self.old.stopped ≡ Some call → (result ≡ Err (RedoFault.Stopped call)) × (self.new ≡ self.old) }
         ensures stops { self.old.stopped ≡ None → StopsAt (D.clock self.new.log.disk) self.new.stopped result }
         ensures cells { IsTrue (D.tells self.old.log.disk) → IsErr result → KeepsCells D.clock D.past self.old self.new }
+        ensures reach { MatchResult result (λ n. (n ≡ (reach_of self.old).logged) × (reach_of self.new ≡ all_ready (reach_of self.old)))
+            (λ _. reach_of self.new ≡ reach_of self.old) }
+        ensures goes_on { RedoGoesOn D.clock D.past self.old self.new }
         ensures told { IsTrue (D.tells self.old.log.disk) → IsTrue (D.tells self.new.log.disk) }
         ensures counted { CountsFault (redo_disk_fails result) (D.fault_count self.old.log.disk) (D.fault_count self.new.log.disk) }
     {
@@ -325,6 +339,8 @@ impl<D: Disk> Redo<D> {
         ensures stops { self.old.stopped ≡ None → StopsAt (D.clock self.new.log.disk) self.new.stopped result }
         ensures cells { (rows : List Row) (f : ℕ) → IsStanding D.tells D.clock D.past self.old rows f
             → IsErr result → KeepsCells D.clock D.past self.old self.new }
+        ensures reach { MatchResult result (λ o. Advances (reach_of self.old) o (reach_of self.new)) (λ _. reach_of self.new ≡ reach_of self.old) }
+        ensures goes_on { RedoGoesOn D.clock D.past self.old self.new }
         ensures told { IsTrue (D.tells self.old.log.disk) → IsTrue (D.tells self.new.log.disk) }
         ensures counted { CountsFault (redo_disk_fails result) (D.fault_count self.old.log.disk) (D.fault_count self.new.log.disk) }
     {
@@ -368,10 +384,13 @@ impl<D: Disk> Redo<D> {
         ensures idle { self.old.enacted.number ≡ self.old.log.gate.number → self.new ≡ self.old }
         ensures gates_end { self.old.stopped ≡ None → (IsErrOf result (RedoFault.NumbersEnd Counter.Gates)
             ↔ ((self.old.enacted.number ≢ self.old.log.gate.number) × (self.old.log.gate.sequence ≡ 2 ^ 64 - 1))) }
+        ensures refused { OnErr result (redo_disk_fails result ≡ false → self.new ≡ self.old) }
         ensures causes { IfErr result IsOfCleaning }
         ensures stopped { (call : ℕ) → self.old.stopped ≡ Some call → (result ≡ Err (RedoFault.Stopped call)) × (self.new ≡ self.old) }
         ensures stops { self.old.stopped ≡ None → StopsAt (D.clock self.new.log.disk) self.new.stopped result }
         ensures cells { IsTrue (D.tells self.old.log.disk) → IsErr result → KeepsCells D.clock D.past self.old self.new }
+        ensures reach { reach_of self.new ≡ reach_of self.old }
+        ensures goes_on { RedoGoesOn D.clock D.past self.old self.new }
         ensures told { IsTrue (D.tells self.old.log.disk) → IsTrue (D.tells self.new.log.disk) }
         ensures counted { CountsFault (redo_disk_fails result) (D.fault_count self.old.log.disk) (D.fault_count self.new.log.disk) }
     {
@@ -406,11 +425,46 @@ impl<D: Disk> Redo<D> {
             → OnOk result ((j : ℕ) → IsLogFile j → IsEmptyFile (D.past self.new.log.disk (D.clock self.new.log.disk) j)) }
         ensures rest { self.new ≡ record self.old { log = self.new.log; written = self.new.written } }
         ensures cells { IsTrue (D.tells self.old.log.disk) → KeepsCells D.clock D.past self.old self.new }
+        ensures goes_on { TimeGoesOn D.clock D.past self.old.log.disk self.new.log.disk }
         ensures told { IsTrue (D.tells self.old.log.disk) → IsTrue (D.tells self.new.log.disk) }
         ensures counted { CountsFault (is_err result) (D.fault_count self.old.log.disk) (D.fault_count self.new.log.disk) }
     {
         sync_written(&mut self.log, &mut self.written)?;
         self.log.clean(self.enacted.number, self.enacted.commits)
+    }
+
+    /// How many commits are in records that were appended, flushed and enacted, those found at opening included.
+    pub fn recorded(&self) -> Recorded
+        ensures { result ≡ record {
+          appended = (reach_of self.now).logged;
+          flushed = (reach_of self.now).flushed;
+          enacted = (reach_of self.now).enacted;
+        } }
+    {
+        Recorded {
+            appended: self.appended.commits,
+            flushed: self.flushed.commits,
+            enacted: self.enacted.commits,
+        }
+    }
+
+    /// The call of the disk that failed, after which no other may change it: its number is the disk's clock right after it.
+    pub fn stopped(&self) -> Option<u64>
+        ensures { result ≡ self.now.stopped }
+    {
+        self.stopped
+    }
+
+    /// The newest head cell of a column, 0 or 1. It is kept in memory, so that no call of the disk is made.
+    pub fn head(&self, column: u8) -> &[u8; 256]
+        requires { column ≤ 1 }
+        ensures { result.now ≡ cells_under_records D.clock D.past self.now 9 column }
+    {
+        if column == 0 {
+            &self.heads.first
+        } else {
+            &self.heads.second
+        }
     }
 
     /// The disk's clock.

@@ -67,6 +67,7 @@ pub fn read_into<C: Cells>(
     ensures counted { CountsFault (disk_fails result) (C.fault_count c.old) (C.fault_count c.new) }
     ensures reads { MatchResult result (λ found. C.read_count c.new ≤ C.read_count c.old + (if found then slots_of (length out.new.items) else 1))
         (λ e. C.read_count c.new ≤ C.read_count c.old + slots_of 8388608) }
+    ensures most { C.read_count c.new ≤ C.read_count c.old + slots_of 8388608 }
     ensures answer { (cells : Content) → C.seen c.old ≡ Some cells
         → IfOk result (IsRead cells column at.tier at.slot key.now out.old.items out.new.items) }
     ensures held { (cells : Content) (t : Table) (h : Held) → C.seen c.old ≡ Some cells → HasTable cells column at.tier t

@@ -6,7 +6,7 @@ use pdb_disk::Disk;
 use pdb_memdisk::MemDisk;
 use pdb_record::{GateSlot, encode};
 use pdb_recover::{pending, recover};
-use pdb_redo::Redo;
+use pdb_redo::{Recorded, Redo, RedoFault};
 use sdb_base::OutOfMemory;
 use std::alloc::Global;
 use std::test::*;
@@ -86,6 +86,54 @@ fn a_round_is_recovered(rt: HostRuntime) -> Result<(), Fail> {
     );
     assert_eq!(rt; (found.number, found.commits, found.puts.len()), (1, 1, 0));
     assert_eq!(rt; recovered(rt.alloc(), disk)?, (1, 1, 1));
+    Ok(())
+}
+
+// How many commits are in appended, flushed and enacted records, after each call of a round over a database of no commits.
+#[test]
+fn each_call_moves_its_own_number(rt: HostRuntime) -> Result<(), Fail> {
+    let mut redo = created(rt.alloc())?;
+    assert_eq!(rt; numbers(&redo), (0, 0, 0));
+    assert_eq!(rt;
+        redo.append(rt.alloc(), 3, one_put(rt.alloc(), 0xab)?),
+        Ok(1)
+    );
+    assert_eq!(rt; numbers(&redo), (3, 0, 0));
+    assert_eq!(rt; redo.flush(), Ok(3));
+    assert_eq!(rt; numbers(&redo), (3, 3, 0));
+    assert_eq!(rt; redo.enact(), Ok(Some(3)));
+    assert_eq!(rt; numbers(&redo), (3, 3, 3));
+    assert_eq!(rt; redo.stopped(), None);
+    Ok(())
+}
+
+// Those numbers, as a row of a table.
+fn numbers(redo: &Redo<MemDisk>) -> (u64, u64, u64) {
+    let Recorded {
+        appended,
+        flushed,
+        enacted,
+    } = redo.recorded();
+    (appended, flushed, enacted)
+}
+
+// Creating makes 91 calls, reads among them; the write of `append` is the next one, and fails.
+#[test]
+fn a_failed_write_is_named(rt: HostRuntime) -> Result<(), Fail> {
+    let mut disk = MemDisk::new(rt.alloc());
+    disk.fail_at(91)?;
+    let Ok(mut redo) = Redo::create(rt.alloc(), disk, 3) else {
+        return Err(Fail::new("not created"));
+    };
+    assert_eq!(rt; (redo.head(0)[1], redo.head(1)[1]), (3, 3));
+    let call = redo.calls() + 1;
+    assert!(rt;
+        redo.append(rt.alloc(), 1, one_put(rt.alloc(), 0xab)?)
+            .is_err()
+    );
+    assert_eq!(rt; redo.stopped(), Some(call));
+    assert_eq!(rt; redo.flush(), Err(RedoFault::Stopped { call }));
+    assert_eq!(rt; numbers(&redo), (0, 0, 0));
     Ok(())
 }
 

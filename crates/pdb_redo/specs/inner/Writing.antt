@@ -7,6 +7,7 @@ use Rattle.pdb_cells.specs.declared.CellName.{CellName}
 use Rattle.pdb_cells.specs.declared.Put.{Put}
 use Rattle.pdb_disk.specs.Files.{Files, IsSynced, reads_of}
 use Rattle.pdb_disk.specs.Moments.{Moments}
+use Rattle.pdb_log.specs.Elapsed.{TimeGoesOn}
 use Rattle.pdb_log.specs.Ledger.{Ledger}
 use Rattle.pdb_log.specs.Standing.{IsLog}
 use Rattle.pdb_log.specs.declared.log.Log.{Log}
@@ -29,6 +30,7 @@ pub record WritesAll {D : Type 0} (tells : D → Bool) (clock : D → ℕ) (past
   pub moments : (l : Ledger) (rows : List Row) (f : ℕ) (r : Record) → IsLog tells clock past old l rows f → Contains l.flushed r
       → ((p : Put) → Contains puts p → Contains r.puts p) → Moments (clock old.disk) (clock new.disk) (past old.disk) (past new.disk) (Safe rows f)
   pub told : IsTrue (tells old.disk) → IsTrue (tells new.disk)
+  pub goes_on : TimeGoesOn clock past old.disk new.disk
   pub beside : IsTrue (tells old.disk) → (name : CellName) → last_put puts name ≡ None
       → cells_now clock past new name.file name.index ≡ cells_now clock past old name.file name.index
 
@@ -57,6 +59,7 @@ pub record Passes {D : Type 0} (tells : D → Bool) (clock : D → ℕ) (past : 
   pub moments : (l : Ledger) (rows : List Row) (f : ℕ) → IsLog tells clock past old l rows f
       → Moments (clock old.disk) (clock new.disk) (past old.disk) (past new.disk) (Safe rows f)
   pub told : IsTrue (tells old.disk) → IsTrue (tells new.disk)
+  pub goes_on : TimeGoesOn clock past old.disk new.disk
   pub read : IsTrue (tells old.disk) → (j : ℕ) → (files_now clock past new j).read ≡ (files_now clock past old j).read
 
 -- where the files that weren't marked were settled, all are

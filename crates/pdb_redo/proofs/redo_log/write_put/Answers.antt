@@ -1,4 +1,5 @@
 use Rattle.std.proofs.Common.{◌*◌, length, inl, ap, arith}
+use Rattle.pdb_log.proofs.Times.{time_of_call}
 use Rattle.pdb_redo.proofs.CellSizes.{cell_file, cell_low, cell_short}
 use Rattle.pdb_redo.proofs.WriteLoop.{alone, call_done, cell_at, may_beside}
 use Rattle.pdb_redo.proofs.redo_log.write_put.Goals as goal
@@ -26,6 +27,7 @@ returns-in-Ok-clause-writes g c = record {
   stands = λ l rows f r is has sub. c.write_at.ensures.stands l rows f r c.args.put.now is has (sub c.args.put.now (alone c.args.put.now)) (cell_at c.args.put.now _ _ c.len.ensures c.as_slice.ensures);
   moments = λ l rows f r is has sub. c.write_at.ensures.any_moment l rows f r c.args.put.now is has (sub c.args.put.now (alone c.args.put.now)) (cell_at c.args.put.now _ _ c.len.ensures c.as_slice.ensures);
   told = c.write_at.ensures.told;
+  goes_on = time_of_call g.D.Disk.clock g.D.Disk.past c.args.log.now.disk c.write_at.new.self.disk c.write_at.ensures.time;
   beside = λ told. may_beside g.D.Disk.tells g.D.Disk.clock g.D.Disk.past c.args.log.now c.write_at.new.self c.args.put.now _ _ c.len.ensures c.as_slice.ensures c.requires.0
       (inl (c.in-Ok.ensures.begun told));
 }
@@ -41,6 +43,7 @@ returns-in-Err-clause-writes g c = record {
   stands = λ l rows f r is has sub. c.write_at.ensures.stands l rows f r c.args.put.now is has (sub c.args.put.now (alone c.args.put.now)) (cell_at c.args.put.now _ _ c.len.ensures c.as_slice.ensures);
   moments = λ l rows f r is has sub. c.write_at.ensures.any_moment l rows f r c.args.put.now is has (sub c.args.put.now (alone c.args.put.now)) (cell_at c.args.put.now _ _ c.len.ensures c.as_slice.ensures);
   told = c.write_at.ensures.told;
+  goes_on = time_of_call g.D.Disk.clock g.D.Disk.past c.args.log.now.disk c.write_at.new.self.disk c.write_at.ensures.time;
   beside = λ told. may_beside g.D.Disk.tells g.D.Disk.clock g.D.Disk.past c.args.log.now c.write_at.new.self c.args.put.now _ _ c.len.ensures c.as_slice.ensures c.requires.0
       (c.in-Err.ensures.failed told);
 }

@@ -3,6 +3,7 @@ use Rattle.pdb_disk.proofs.Calls.{joined}
 use Rattle.pdb_log.specs.Ledger.{Ledger, cleared, passed}
 use Rattle.pdb_log.specs.Standing.{IsLog, next_gate}
 use Rattle.pdb_log.proofs.Cleared.{files_cleared_as}
+use Rattle.pdb_log.proofs.Times.{time_then}
 use Rattle.pdb_log.proofs.log.Log.clean.Goals as goal
 
 pub returns-in_err-clear_passed-clause-any_moment : goal.returns-in_err-clear_passed-clause-any_moment
@@ -71,3 +72,32 @@ returns-clause-cleaned g c l rows f dropped flushed is next =
     let n2 = c.clear_passed-2.ensures.number ∙ n1 in
     let n3 = c.clear_passed-3.ensures.number ∙ n2 in
     subst (λ (k : Ledger). IsLog g.D.Disk.tells g.D.Disk.clock g.D.Disk.past c.clear_passed-4.new.self k rows f) (files_cleared_as l0 _ _ _ _ c.args.self.now.number n0 n1 n2 n3) is4
+
+pub returns-in_err-clear_passed-clause-goes_on : goal.returns-in_err-clear_passed-clause-goes_on
+returns-in_err-clear_passed-clause-goes_on g c =
+    time_then g.D.Disk.clock g.D.Disk.past c.args.self.now.disk c.write_gate.new.self.disk c.clear_passed.new.self.disk c.write_gate.ensures.goes_on c.clear_passed.ensures.goes_on
+
+pub returns-in_err-clear_passed-2-clause-goes_on : goal.returns-in_err-clear_passed-2-clause-goes_on
+returns-in_err-clear_passed-2-clause-goes_on g c =
+    let t1 = time_then g.D.Disk.clock g.D.Disk.past c.args.self.now.disk c.write_gate.new.self.disk c.clear_passed.new.self.disk c.write_gate.ensures.goes_on c.clear_passed.ensures.goes_on in
+    time_then g.D.Disk.clock g.D.Disk.past c.args.self.now.disk c.clear_passed.new.self.disk c.clear_passed-2.new.self.disk t1 c.clear_passed-2.ensures.goes_on
+
+pub returns-in_err-clear_passed-3-clause-goes_on : goal.returns-in_err-clear_passed-3-clause-goes_on
+returns-in_err-clear_passed-3-clause-goes_on g c =
+    let t1 = time_then g.D.Disk.clock g.D.Disk.past c.args.self.now.disk c.write_gate.new.self.disk c.clear_passed.new.self.disk c.write_gate.ensures.goes_on c.clear_passed.ensures.goes_on in
+    let t2 = time_then g.D.Disk.clock g.D.Disk.past c.args.self.now.disk c.clear_passed.new.self.disk c.clear_passed-2.new.self.disk t1 c.clear_passed-2.ensures.goes_on in
+    time_then g.D.Disk.clock g.D.Disk.past c.args.self.now.disk c.clear_passed-2.new.self.disk c.clear_passed-3.new.self.disk t2 c.clear_passed-3.ensures.goes_on
+
+pub returns-in_err-clear_passed-4-clause-goes_on : goal.returns-in_err-clear_passed-4-clause-goes_on
+returns-in_err-clear_passed-4-clause-goes_on g c =
+    let t1 = time_then g.D.Disk.clock g.D.Disk.past c.args.self.now.disk c.write_gate.new.self.disk c.clear_passed.new.self.disk c.write_gate.ensures.goes_on c.clear_passed.ensures.goes_on in
+    let t2 = time_then g.D.Disk.clock g.D.Disk.past c.args.self.now.disk c.clear_passed.new.self.disk c.clear_passed-2.new.self.disk t1 c.clear_passed-2.ensures.goes_on in
+    let t3 = time_then g.D.Disk.clock g.D.Disk.past c.args.self.now.disk c.clear_passed-2.new.self.disk c.clear_passed-3.new.self.disk t2 c.clear_passed-3.ensures.goes_on in
+    time_then g.D.Disk.clock g.D.Disk.past c.args.self.now.disk c.clear_passed-3.new.self.disk c.clear_passed-4.new.self.disk t3 c.clear_passed-4.ensures.goes_on
+
+pub returns-clause-goes_on : goal.returns-clause-goes_on
+returns-clause-goes_on g c =
+    let t1 = time_then g.D.Disk.clock g.D.Disk.past c.args.self.now.disk c.write_gate.new.self.disk c.clear_passed.new.self.disk c.write_gate.ensures.goes_on c.clear_passed.ensures.goes_on in
+    let t2 = time_then g.D.Disk.clock g.D.Disk.past c.args.self.now.disk c.clear_passed.new.self.disk c.clear_passed-2.new.self.disk t1 c.clear_passed-2.ensures.goes_on in
+    let t3 = time_then g.D.Disk.clock g.D.Disk.past c.args.self.now.disk c.clear_passed-2.new.self.disk c.clear_passed-3.new.self.disk t2 c.clear_passed-3.ensures.goes_on in
+    time_then g.D.Disk.clock g.D.Disk.past c.args.self.now.disk c.clear_passed-3.new.self.disk c.clear_passed-4.new.self.disk t3 c.clear_passed-4.ensures.goes_on

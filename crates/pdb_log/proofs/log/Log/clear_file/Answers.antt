@@ -3,6 +3,7 @@ use Rattle.pdb_disk.proofs.Calls.{joined, one_call}
 use Rattle.pdb_model.specs.Recovery.{Safe}
 use Rattle.pdb_log.proofs.Clears.{cut_log, cut_mid, cut_moments}
 use Rattle.pdb_log.proofs.Logs.{safe_now, set_to}
+use Rattle.pdb_log.proofs.Times.{time_of_call, time_then}
 use Rattle.pdb_log.proofs.log.Log.clear_file.Goals as goal
 
 pub returns-in-Ok-sync-clause-file_emptied : goal.returns-in-Ok-sync-clause-file_emptied
@@ -37,3 +38,13 @@ returns-in-Err-sync-clause-any_moment g c l rows f is pass =
 pub returns-in-Err-clause-any_moment : goal.returns-in-Err-clause-any_moment
 returns-in-Err-clause-any_moment g c l rows f is pass =
     cut_moments g.D.Disk.tells g.D.Disk.clock g.D.Disk.past c.args.self.now c.args.file l rows f c.requires is pass c.cut.new.self c.cut.ensures.time c.in-Err.ensures.failed
+
+pub returns-in-Ok-sync-clause-goes_on : goal.returns-in-Ok-sync-clause-goes_on
+returns-in-Ok-sync-clause-goes_on g c =
+    let first = time_of_call g.D.Disk.clock g.D.Disk.past c.args.self.now.disk c.cut.new.self c.cut.ensures.time in
+    time_then g.D.Disk.clock g.D.Disk.past c.args.self.now.disk c.cut.new.self c.sync.new.self first (time_of_call g.D.Disk.clock g.D.Disk.past c.cut.new.self c.sync.new.self c.sync.ensures.time)
+
+pub returns-in-Err-sync-clause-goes_on : goal.returns-in-Err-sync-clause-goes_on
+returns-in-Err-sync-clause-goes_on g c =
+    let first = time_of_call g.D.Disk.clock g.D.Disk.past c.args.self.now.disk c.cut.new.self c.cut.ensures.time in
+    time_then g.D.Disk.clock g.D.Disk.past c.args.self.now.disk c.cut.new.self c.sync.new.self first (time_of_call g.D.Disk.clock g.D.Disk.past c.cut.new.self c.sync.new.self c.sync.ensures.time)

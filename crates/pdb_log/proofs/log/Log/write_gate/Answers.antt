@@ -5,6 +5,7 @@ use Rattle.pdb_log.specs.Ledger.{passed}
 use Rattle.pdb_log.proofs.Cleans.{gate_log, gate_mid, gate_write_moments}
 use Rattle.pdb_log.proofs.Gates.{Fits}
 use Rattle.pdb_log.proofs.Logs.{begun_as, done_as, may_as, safe_now}
+use Rattle.pdb_log.proofs.Times.{time_of_call, time_then}
 use Rattle.pdb_log.proofs.log.Log.write_gate.Goals as goal
 
 pub returns-in-Ok-sync-clause-gate_passed : goal.returns-in-Ok-sync-clause-gate_passed
@@ -44,3 +45,13 @@ returns-in-Err-clause-any_moment g c l rows f dropped flushed is next =
     let fits : Fits c.args.g = record { sequence = search rules; number = search rules; commits = search rules } in
     gate_write_moments g.D.Disk.tells g.D.Disk.clock g.D.Disk.past c.args.self.now c.args.g dropped flushed l rows f fits is next c.write_at.new.self c.write_at.ensures.time
     (λ told. may_as _ _ _ _ _ _ c.gate_bytes-bytes.ensures (c.in-Err.ensures.failed told))
+
+pub returns-in-Ok-sync-clause-goes_on : goal.returns-in-Ok-sync-clause-goes_on
+returns-in-Ok-sync-clause-goes_on g c =
+    let first = time_of_call g.D.Disk.clock g.D.Disk.past c.args.self.now.disk c.write_at.new.self c.write_at.ensures.time in
+    time_then g.D.Disk.clock g.D.Disk.past c.args.self.now.disk c.write_at.new.self c.sync.new.self first (time_of_call g.D.Disk.clock g.D.Disk.past c.write_at.new.self c.sync.new.self c.sync.ensures.time)
+
+pub returns-in-Err-sync-clause-goes_on : goal.returns-in-Err-sync-clause-goes_on
+returns-in-Err-sync-clause-goes_on g c =
+    let first = time_of_call g.D.Disk.clock g.D.Disk.past c.args.self.now.disk c.write_at.new.self c.write_at.ensures.time in
+    time_then g.D.Disk.clock g.D.Disk.past c.args.self.now.disk c.write_at.new.self c.sync.new.self first (time_of_call g.D.Disk.clock g.D.Disk.past c.write_at.new.self c.sync.new.self c.sync.ensures.time)

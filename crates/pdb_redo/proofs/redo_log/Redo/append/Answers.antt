@@ -18,6 +18,7 @@ use Rattle.pdb_redo.specs.declared.fault.RedoFault.TheVariants as redo
 use Rattle.pdb_redo.specs.Standing.{IsStanding, next_redo_record}
 use Rattle.pdb_redo.proofs.Appended.{appended_redo, at_end_of, moments_as, next_same, safe_more, turned_as}
 use Rattle.pdb_redo.proofs.Redos.{same_cells}
+use Rattle.pdb_redo.proofs.Reached.{goes_by, reach_logged, reach_same}
 use Rattle.pdb_redo.proofs.redo_log.Redo.append.Goals as goal
 
 same_end : (which : Counter) → ◌≡◌ {A = Result ℕ RedoFault} (Err (redo.NumbersEnd which)) (Err (redo.NumbersEnd LogBytes)) → which ≡ LogBytes
@@ -43,6 +44,7 @@ pub invariant_of-self : goal.invariant_of-self
 invariant_of-self g c = record {
   whole = rw c.make_room.ensures.same c.args.self.now.whole;
   last = rw c.make_room.ensures.same c.args.self.now.last;
+  marked = rw c.make_room.ensures.same c.args.self.now.marked;
 }
 
 pub returns-in_err-make_room-clause-any_moment : goal.returns-in_err-make_room-clause-any_moment
@@ -52,6 +54,7 @@ pub invariant_of-self-in-Ok : goal.invariant_of-self-in-Ok
 invariant_of-self-in-Ok g c = record {
   whole = rw c.make_room.ensures.same c.args.self.now.whole;
   last = rw c.make_room.ensures.same c.args.self.now.last;
+  marked = rw c.make_room.ensures.same c.args.self.now.marked;
 }
 
 pub returns-in-Ok-clause-appended : goal.returns-in-Ok-clause-appended
@@ -92,6 +95,7 @@ pub invariant_of-self-in-Err-1 : goal.invariant_of-self-in-Err-1
 invariant_of-self-in-Err-1 g c = record {
   whole = rw c.make_room.ensures.same c.args.self.now.whole;
   last = rw c.make_room.ensures.same c.args.self.now.last;
+  marked = rw c.make_room.ensures.same c.args.self.now.marked;
 }
 
 pub returns-in-Err-OutOfMemory-clause-any_moment : goal.returns-in-Err-OutOfMemory-clause-any_moment
@@ -123,3 +127,26 @@ pub returns-clause-cells : goal.returns-clause-cells
 returns-clause-cells g c told failed =
     same_cells g.D.Disk.tells g.D.Disk.clock g.D.Disk.past c.args.self.now c.stop.new.self (rw c.stop.ensures.noted refl) (rw c.stop.ensures.noted c.make_room.ensures.same)
     (λ j high. rw c.stop.ensures.noted (c.append.ensures.aside.cells told j high))
+
+pub returns-in-Ok-clause-reach : goal.returns-in-Ok-clause-reach
+returns-in-Ok-clause-reach g c =
+    reach_logged c.args.self.now c.add_waiting.new.self (record { number = c.args.self.now.appended.number + 1; commits = c.args.commits }) (next_redo_record c.args.self.now c.args.commits c.args.puts)
+    c.add_waiting.ensures.appended c.add_waiting.ensures.marks.0 c.add_waiting.ensures.marks.1 (c.add_waiting.ensures.waiting ∙ rw c.make_room.ensures.same refl) refl
+
+pub returns-in-Ok-clause-goes_on : goal.returns-in-Ok-clause-goes_on
+returns-in-Ok-clause-goes_on g c =
+    goes_by g.D.Disk.clock g.D.Disk.past c.args.self.now c.add_waiting.new.self (rw (c.add_waiting.ensures.log, c.rotate.ensures.disk) c.append.ensures.goes_on) c.add_waiting.ensures.reads
+
+pub returns-in-Err-OutOfMemory-clause-reach : goal.returns-in-Err-OutOfMemory-clause-reach
+returns-in-Err-OutOfMemory-clause-reach g c = rw c.make_room.ensures.same refl
+
+pub returns-in-Err-NumbersEnd-clause-reach : goal.returns-in-Err-NumbersEnd-clause-reach
+returns-in-Err-NumbersEnd-clause-reach g c = rw c.make_room.ensures.same refl
+
+pub returns-clause-reach : goal.returns-clause-reach
+returns-clause-reach g c =
+    reach_same c.args.self.now c.stop.new.self (rw c.stop.ensures.noted refl) (rw c.stop.ensures.noted refl) (rw c.stop.ensures.noted refl) (rw c.stop.ensures.noted c.make_room.ensures.same)
+
+pub returns-clause-goes_on : goal.returns-clause-goes_on
+returns-clause-goes_on g c =
+    goes_by g.D.Disk.clock g.D.Disk.past c.args.self.now c.stop.new.self (rw c.stop.ensures.noted c.append.ensures.goes_on) (rw c.stop.ensures.noted refl)

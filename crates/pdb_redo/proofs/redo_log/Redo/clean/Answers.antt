@@ -1,9 +1,10 @@
-use Rattle.std.proofs.Common.{◌∙◌, ap}
+use Rattle.std.proofs.Common.{◌∙◌, ap, refl}
 use Rattle.pdb_disk.proofs.Calls.{no_call}
 use Rattle.pdb_model.specs.Recovery.{Safe}
 use Rattle.pdb_model.specs.declared.gate_slot.GateSlot.{GateSlot}
 use Rattle.pdb_redo.proofs.Appended.{safe_now_of}
 use Rattle.pdb_redo.proofs.Emptied.{files_empty, nothing_waits}
+use Rattle.pdb_redo.proofs.Reached.{goes_by}
 use Rattle.pdb_redo.proofs.redo_log.Redo.clean.Goals as goal
 
 pub returns-then-self-gate-clause-any_moment : goal.returns-then-self-gate-clause-any_moment
@@ -22,3 +23,18 @@ returns-in-Err-clause-any_moment g c rows f is = rw c.stop.ensures.noted (c.pass
 
 pub returns-in-Err-clause-cells : goal.returns-in-Err-clause-cells
 returns-in-Err-clause-cells g c told failed file index = rw c.stop.ensures.noted (c.pass_enacted.ensures.cells told file index)
+
+pub returns-in-Ok-clause-reach : goal.returns-in-Ok-clause-reach
+returns-in-Ok-clause-reach g c = rw c.pass_enacted.ensures.rest refl
+
+pub returns-in-Ok-clause-goes_on : goal.returns-in-Ok-clause-goes_on
+returns-in-Ok-clause-goes_on g c =
+    goes_by g.D.Disk.clock g.D.Disk.past c.args.self.now c.pass_enacted.new.self c.pass_enacted.ensures.goes_on (rw c.pass_enacted.ensures.rest refl)
+
+pub returns-in-Err-clause-reach : goal.returns-in-Err-clause-reach
+returns-in-Err-clause-reach g c = rw (c.stop.ensures.noted, c.pass_enacted.ensures.rest) refl
+
+pub returns-in-Err-clause-goes_on : goal.returns-in-Err-clause-goes_on
+returns-in-Err-clause-goes_on g c =
+    goes_by g.D.Disk.clock g.D.Disk.past c.args.self.now c.stop.new.self (rw c.stop.ensures.noted c.pass_enacted.ensures.goes_on)
+    (rw (c.stop.ensures.noted, c.pass_enacted.ensures.rest) refl)

@@ -1,16 +1,18 @@
-use Rattle.std.proofs.Common.{List, All, refl, sym, subst}
+use Rattle.std.proofs.Common.{List, All, refl, arith, sym, subst}
 use Rattle.pdb_disk.proofs.Calls.{no_call}
 use Rattle.pdb_model.specs.Records.{Record}
 use Rattle.pdb_model.specs.Recovery.{Safe}
 use Rattle.pdb_cells.specs.Puts.{IsWholeCell}
 use Rattle.pdb_cells.specs.declared.Put.{Put}
 use Rattle.pdb_redo.specs.Backlogs.{records_in}
-use Rattle.pdb_redo.specs.inner.Carrying.{EndAt, HaveWholeCells}
+use Rattle.pdb_redo.specs.inner.Carrying.{AreMarked, EndAt, HaveWholeCells}
 use Rattle.pdb_redo.specs.inner.Writing.{AreDone, WritesAll}
 use Rattle.pdb_redo.specs.Places.{record_of}
 use Rattle.pdb_redo.proofs.Appended.{safe_now_of}
 use Rattle.pdb_redo.proofs.Carried.{carries_rest, first_is, first_whole, rest_ends}
 use Rattle.pdb_redo.proofs.Enacted.{enacted_redo, is_flushed, same_while_written, waits_somewhere}
+use Rattle.pdb_redo.proofs.Marked.{marked_rest}
+use Rattle.pdb_redo.proofs.Reached.{goes_by, reach_done, reach_enacted, reach_idle}
 use Rattle.pdb_redo.proofs.redo_log.Redo.enact.Goals as goal
 
 pub returns-then-self-clause-any_moment : goal.returns-then-self-clause-any_moment
@@ -34,6 +36,9 @@ invariant_of-self-in-Ok g c =
     record {
       whole = subst (λ (rs : List Record). HaveWholeCells rs) (sym left) (carries_rest r qs.0 (subst (λ (rs : List Record). HaveWholeCells rs) qs.1 c.args.self.now.whole));
       last = subst (λ (rs : List Record). EndAt rs c.args.self.now.appended.number) (sym left) (rest_ends r qs.0 c.args.self.now.appended.number (subst (λ (rs : List Record). EndAt rs c.args.self.now.appended.number) qs.1 c.args.self.now.last));
+      marked = subst (λ (rs : List Record). AreMarked r.number c.args.self.now.flushed.number c.args.self.now.appended.number rs) (sym left)
+          (marked_rest c.args.self.now.enacted.number c.args.self.now.flushed.number c.args.self.now.appended.number r qs.0
+          (subst (λ (rs : List Record). AreMarked c.args.self.now.enacted.number c.args.self.now.flushed.number c.args.self.now.appended.number rs) qs.1 c.args.self.now.marked) c.if-self.false);
     }
 
 pub returns-in-Ok-clause-enacted : goal.returns-in-Ok-clause-enacted
@@ -73,3 +78,25 @@ returns-in-Err-clause-cells g c rows f is failed =
     same_while_written g.D.Disk.tells g.D.Disk.clock g.D.Disk.past c.args.self.now is.0 rows f is.1 c.if-self.false r qs.0 qs.1 c.stop.new.self
     (rw c.stop.ensures.noted refl) (rw c.stop.ensures.noted refl)
     (λ name none. rw c.stop.ensures.noted (writes.beside is.1.log.told name none))
+
+pub returns-then-self-clause-reach : goal.returns-then-self-clause-reach
+returns-then-self-clause-reach g c = reach_idle c.args.self.now c.if-self.true
+
+pub returns-in_default-first-clause-reach : goal.returns-in_default-first-clause-reach
+returns-in_default-first-clause-reach g c = absurd (c.if-self.false (reach_done c.args.self.now (sym c.in_default-first.ensures)))
+
+pub returns-in-Ok-clause-reach : goal.returns-in-Ok-clause-reach
+returns-in-Ok-clause-reach g c =
+    let r : Record = record_of c.in-Some-first.record.now in
+    let qs = first_is (records_in c.args.self.now.backlog) r (sym c.in-Some-first.ensures) in
+    reach_enacted c.args.self.now (record { number = r.number; commits = r.commits }) r qs.0 (records_in c.pop.new.self) c.if-self.false qs.1 (c.pop.ensures r qs.0 qs.1) refl
+
+pub returns-in-Ok-clause-goes_on : goal.returns-in-Ok-clause-goes_on
+returns-in-Ok-clause-goes_on g c = record { later = c.write_puts.ensures.writes.goes_on.later; earlier = c.write_puts.ensures.writes.goes_on.earlier; reads = omega arith }
+
+pub returns-in-Err-clause-reach : goal.returns-in-Err-clause-reach
+returns-in-Err-clause-reach g c = rw c.stop.ensures.noted refl
+
+pub returns-in-Err-clause-goes_on : goal.returns-in-Err-clause-goes_on
+returns-in-Err-clause-goes_on g c =
+    goes_by g.D.Disk.clock g.D.Disk.past c.args.self.now c.stop.new.self (rw c.stop.ensures.noted c.write_puts.ensures.writes.goes_on) (rw c.stop.ensures.noted refl)

@@ -10,6 +10,7 @@ use Rattle.pdb_redo.proofs.CellSizes.{cells_alike}
 use Rattle.pdb_redo.proofs.Emptied.{empty_file}
 use Rattle.pdb_redo.proofs.Passed.{all_passed, cleared_as, next_is, passed_redo}
 use Rattle.pdb_redo.proofs.Redos.{same_read, still_settled}
+use Rattle.pdb_log.proofs.Times.{time_then}
 use Rattle.pdb_redo.proofs.redo_log.Redo.pass_enacted.Goals as goal
 
 on_ok : {T E : Type 0} {P Q : Type 0} (r : Result T E) → OnOk r P → (P → Q) → OnOk r Q
@@ -58,3 +59,10 @@ returns-clause-empty g c rows f is all =
     on_ok c.clean.result (c.clean.ensures.cleaned is.0 rows f _ _ (passes.stands is.0 rows f is.1.log) next) (λ log j m.
     empty_file _ ((files_cleared l0 n).segments j) (log.segments j m) (log.read j m)
     (none_left g.D.Disk.tells g.D.Disk.clock g.D.Disk.past c.clean.new.self l0 n rows f log (subst (λ (k : Ledger). k.flushed ++ k.rest ≡ []) (sym (cleared_as l0 n)) none) j m))
+
+pub returns-in_err-sync_written-clause-goes_on : goal.returns-in_err-sync_written-clause-goes_on
+returns-in_err-sync_written-clause-goes_on g c = c.sync_written.ensures.passes.goes_on
+
+pub returns-clause-goes_on : goal.returns-clause-goes_on
+returns-clause-goes_on g c =
+    time_then g.D.Disk.clock g.D.Disk.past c.args.self.now.log.disk c.sync_written.new.log.disk c.clean.new.self.disk c.sync_written.ensures.passes.goes_on c.clean.ensures.goes_on

@@ -52,7 +52,7 @@ returns-in-Err-clause-stands g c rows f is = (
 pub returns-in-Err-clause-keeps : goal.returns-in-Err-clause-keeps
 returns-in-Err-clause-keeps g c = record {
   log = c.read_at.ensures.rest;
-  rest = same_rest c.args.self.now c.read_at.new.self _ _ _;
+  rest = same_rest c.args.self.now c.read_at.new.self _ _ _ _;
   time = c.read_at.ensures.time;
   unchanged = c.read_at.ensures.unchanged;
   told = c.read_at.ensures.told;
