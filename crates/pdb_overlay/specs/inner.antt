@@ -1,0 +1,3 @@
+-- What only the crate's own clauses cite.
+pub mod Slots
+pub mod Placing

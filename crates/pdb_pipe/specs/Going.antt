@@ -1,0 +1,17 @@
+-- What calls make of a database, whatever it stands for.
+use Rattle.std.specs.Prelude.{◌≡◌, ◌≤◌, ◌++◌, ℕ}
+use Rattle.sdb_base.specs.Keeping.{Commits}
+use Rattle.pdb_disk.specs.Files.{Files}
+use Rattle.pdb_redo.specs.Reaches.{RedoGoesOn, reach_of}
+use Rattle.pdb_pipe.specs.declared.database.Database.{Database}
+
+-- The counts of faults and reads, the disk's clock and the flushed number didn't fall, and each moment up to the earlier clock has
+-- the files that it had.
+pub record ComesAfter {D : Type 0} (clock : D → ℕ) (past : D → ℕ → Files) (fault_count : D → ℕ) (old new : Database D) : Type 0 where
+  pub faults : fault_count old.redo.log.disk ≤ fault_count new.redo.log.disk
+  pub goes_on : RedoGoesOn clock past old.redo new.redo
+  pub flushed : (reach_of old.redo).flushed ≤ (reach_of new.redo).flushed
+
+-- the second database with its commits is what calls made of the first with its own
+abbrev pub ComesAfterWith : {D : Type 0} → (D → ℕ) → (D → ℕ → Files) → (D → ℕ) → Database D → Commits → Database D → Commits → Type 0
+ComesAfterWith clock past fault_count a g b h = ComesAfter clock past fault_count a b × ((more : Commits) × (h ≡ g ++ more))

@@ -1,0 +1,10 @@
+pub mod Commits
+pub mod Reads
+pub mod Planning
+pub mod Standing
+pub mod Opening
+pub mod Going
+pub mod Keeping
+pub mod Faults
+pub mod Stages
+pub mod inner
