@@ -1,8 +1,7 @@
 //! The program: it hands its words, standard input and standard output to the top call, and ends with the
 //! status as its exit code.
 //!
-//! The two streams are seen by their counts of faults and, where std's words tell it of a reader or a writer, by the
-//! bytes that are left and those that were written. Of a terminal or a pipe these words tell nothing, so such a run is
+//! The two streams are those of `sdb_host`. Nothing can be said in a contract of a terminal or a pipe, so a whole run is
 //! tried by running it. The functions here say what the words are, what is written where there is no memory for them,
 //! and which exit code a status has.
 #![tactic(auto)]
@@ -15,9 +14,8 @@ ghost use Rattle.sdb_io.specs.Output.{Gets, GetsPrefix};
 ghost use Rattle.sdb_serve.specs.Runs.{last_line};
 ghost use Rattle.sdb_serve.specs.Statuses.{status_code};
 
-mod streams;
-
 use sdb_base::{Bytes, OutOfMemory, Words};
+use sdb_host::{Stdin, Stdout};
 use sdb_io::Sink;
 use sdb_serve::{Cause, Status, run};
 use std::alloc::{AllocError, Global};
@@ -25,7 +23,6 @@ use std::env::Args;
 use std::io::ErrorKind;
 use std::process::ExitCode;
 use std::{env, io};
-use streams::{Stdin, Stdout};
 
 /// The arguments after the program's name.
 fn words_of(alloc: Global, args: Args) -> Result<Words, OutOfMemory>

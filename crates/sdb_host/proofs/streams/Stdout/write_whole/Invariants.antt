@@ -1,5 +1,5 @@
 use Rattle.std.proofs.Common.{◌≡◌, ◌++◌, ℕ, List, Some, drop, length, take}
-use Rattle.statedb_run.proofs.streams.Stdout.write_whole.Given as goal
+use Rattle.sdb_host.proofs.streams.Stdout.write_whole.Given as goal
 
 -- no fault is counted here, and what isn't left was written
 abbrev pub invariant-loop-rest : goal.invariant-loop-rest

@@ -1,6 +1,6 @@
 use Rattle.std.proofs.Common.{◌∙◌, ◌+◌, sym}
-use Rattle.statedb_run.proofs.Written.{all_taken, keeps, whole_rest, writes_more}
-use Rattle.statedb_run.proofs.streams.Stdout.write_whole.Goals as goal
+use Rattle.sdb_host.proofs.Written.{all_taken, keeps, whole_rest, writes_more}
+use Rattle.sdb_host.proofs.streams.Stdout.write_whole.Goals as goal
 
 pub loop-rest-preserved : goal.loop-rest-preserved
 loop-rest-preserved g c = record {
