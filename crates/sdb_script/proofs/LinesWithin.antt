@@ -12,14 +12,14 @@ use Rattle.sdb_base.specs.declared.Change.{Change}
 use Rattle.sdb_model.specs.Limits.{ChangeIsWithin}
 use Rattle.sdb_model.specs.declared.Task.TheVariants.{Import, Read, Next, List as Listing, Root}
 use Rattle.sdb_script.specs.declared.line.Line.{Line}
-use Rattle.sdb_script.specs.declared.line.Line.TheVariants.{Blank, New, Genesis, Job}
+use Rattle.sdb_script.specs.declared.line.Line.TheVariants.{Blank, New, Genesis, Job, Stage}
 use Rattle.sdb_script.specs.declared.line.LineFault.{LineFault}
 use Rattle.sdb_script.specs.declared.line.LineFault.TheVariants.{NotInGrammar, OutOfMemory}
 use Rattle.sdb_script.specs.inner.Reading.{IsParsed}
-use Rattle.sdb_script.specs.Grammar.{block_with, changes_of, genesis_line, id_and_key, import_line, is_blank, line_of, line_of_words, list_line, most_changes, most_in_line, new_line, next_line, no_parent, read_line, root_line, words_of}
+use Rattle.sdb_script.specs.Grammar.{block_with, changes_of, genesis_line, id_and_key, import_line, is_blank, line_of, line_of_words, list_line, most_changes, most_in_line, new_line, next_line, no_parent, read_line, root_line, stage_line, words_of}
 use Rattle.sdb_script.specs.LineTexts.{HasAtMost, IsBlock, IsChange, IsId, IsWithin}
 use Rattle.sdb_script.specs.Numbers.{number_spelled, number_within}
-use Rattle.sdb_script.specs.Words.{bytes_of, id_of, most_in_key}
+use Rattle.sdb_script.specs.Words.{bytes_of, id_of, most_in_key, stage_of}
 use Rattle.sdb_script.proofs.ChangesWithin.{changes_within}
 use Rattle.sdb_script.proofs.Within.{bytes_within, chosen, id_within, map_some, passed, then_some, zeros_are_bytes}
 
@@ -101,6 +101,13 @@ root_is (i ∷ []) line h =
     subst IsWithin id.2 (id_within i id.0 id.1)
 root_is (i ∷ (w ∷ ws)) line h = absurd (none-some line h)
 
+stage_is : (w : List ℕ) (ws : List (List ℕ)) (line : Line) → stage_line w ws ≡ Some line → IsWithin line
+unfolding stage_line
+stage_is w [] line h =
+    let stage = map_some (λ stage. Stage stage) (stage_of w) line h in
+    subst IsWithin stage.2 tt
+stage_is w (x ∷ ws) line h = absurd (none-some line h)
+
 words_are : (ws : List (List ℕ)) (line : Line) → line_of_words ws ≡ Some line → IsWithin line
 unfolding line_of_words
 words_are [] line h = absurd (none-some line h)
@@ -111,8 +118,7 @@ words_are (w ∷ ws) line h =
     (λ h3. chosen IsWithin (bytes_eq w (codes "read")) (read_line ws) _ line h3 (asked_is (λ asked. Job (Read asked.0 asked.1)) (λ asked within. within) ws line)
     (λ h4. chosen IsWithin (bytes_eq w (codes "next")) (next_line ws) _ line h4 (asked_is (λ asked. Job (Next asked.0 asked.1)) (λ asked within. within) ws line)
     (λ h5. chosen IsWithin (bytes_eq w (codes "list")) (list_line ws) _ line h5 (asked_is (λ asked. Job (Listing asked.0 asked.1)) (λ asked within. within) ws line)
-    (λ h6. chosen IsWithin (bytes_eq w (codes "root")) (root_line ws) None line h6 (root_is ws line)
-    (λ h7. absurd (none-some line h7))))))))
+    (λ h6. chosen IsWithin (bytes_eq w (codes "root")) (root_line ws) (stage_line w ws) line h6 (root_is ws line) (stage_is w ws line)))))))
 
 pub gives_within : (ws : List (List ℕ)) (r : Result Line LineFault) → IsParsed r (line_of_words ws) → IfOk r IsWithin
 gives_within ws (Ok line) h = words_are ws line h

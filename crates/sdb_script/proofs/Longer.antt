@@ -2,7 +2,7 @@
 use Rattle.std.proofs.Common.{◌≡◌, ℕ, ◌==◌, true, List, [], ◌∷◌, length, Option, Some, None, Bor, refl, arith}
 use Rattle.std.specs.Prelude.{is_some}
 use Rattle.std.proofs.lemmas.List.Splits.{length-slice_split}
-use Rattle.sdb_script.specs.Grammar.{new_line, id_and_key, root_line}
+use Rattle.sdb_script.specs.Grammar.{new_line, id_and_key, root_line, stage_line, words_of}
 use Rattle.sdb_script.specs.inner.Reading.{words_left}
 
 some_left : (rest : Option (Bor (List ℕ))) → is_some rest ≡ true → length (words_left rest) ≡ 0 → ⊥
@@ -32,3 +32,11 @@ root_two i (w ∷ ws) h = refl
 
 pub root_longer : (i : List ℕ) (rest : Option (Bor (List ℕ))) (words : List (List ℕ)) → is_some rest ≡ true → words ≡ i ∷ words_left rest → root_line words ≡ None
 root_longer i rest words e is = rw is (root_two i (words_left rest) (some_left rest e))
+
+stage_more : (w : List ℕ) (ws : List (List ℕ)) → (length ws ≡ 0 → ⊥) → stage_line w ws ≡ None
+unfolding stage_line
+stage_more w [] h = absurd (h refl)
+stage_more w (x ∷ ws) h = refl
+
+pub stage_longer : (w : List ℕ) (rest : Bor (List ℕ)) → stage_line w (words_of rest.now) ≡ None
+stage_longer w rest = stage_more w (words_of rest.now) (some_left (Some rest) refl)

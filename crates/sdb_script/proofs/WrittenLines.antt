@@ -12,8 +12,11 @@ use Rattle.sdb_base.specs.declared.BlockId.{BlockId}
 use Rattle.sdb_base.specs.declared.Change.{Change}
 use Rattle.sdb_model.specs.declared.Task.TheVariants.{Import, Read, Next, List as Listing, Root}
 use Rattle.sdb_script.specs.declared.line.Line.{Line}
+use Rattle.sdb_script.specs.declared.line.Line.TheVariants as lines
 use Rattle.sdb_script.specs.declared.line.Line.TheVariants.{Blank, New, Genesis, Job}
-use Rattle.sdb_script.specs.Grammar.{most_in_line, words_of, is_blank, each_change, changes_of, block_with, no_parent, new_line, genesis_line, import_line, id_and_key, read_line, next_line, list_line, root_line, line_of_words, line_of}
+use Rattle.sdb_script.specs.declared.stage.Stage.{Stage}
+use Rattle.sdb_script.specs.declared.stage.Stage.TheVariants.{Log, Flush, Enact, Clean, Grow}
+use Rattle.sdb_script.specs.Grammar.{most_in_line, words_of, is_blank, each_change, changes_of, block_with, no_parent, new_line, genesis_line, import_line, id_and_key, read_line, next_line, list_line, root_line, stage_line, line_of_words, line_of}
 use Rattle.sdb_script.specs.LineTexts.{id_text, change_text, line_text, IsChange, IsBlock, IsId, HasAtMost, IsWithin}
 use Rattle.sdb_script.specs.Texts.{bytes_text}
 use Rattle.sdb_script.specs.Words.{most_in_key}
@@ -102,6 +105,19 @@ asked_words : (word : List ℕ) (id : BlockId) (key : List ℕ) → is_free word
 asked_words word id key free h =
     split_join word (id_text id ∷ bytes_text key ∷ []) (list_free word free) (id_free id h.0, (bytes_free 32 refl refl key h.1.1, tt))
 
+-- the line of one word without a space
+alone_back : (c : ℕ) (cs : List ℕ) (line : Line) → is_free (c ∷ cs) ≡ true → is_blank (c ∷ cs) ≡ false → length (c ∷ cs) ≤ most_in_line
+    → line_of_words ((c ∷ cs) ∷ []) ≡ Some line → line_of (c ∷ cs) ≡ Some line
+alone_back c cs line free b le l = line_is (c ∷ cs) ((c ∷ cs) ∷ []) (Some line) le b (split_join (c ∷ cs) [] (list_free (c ∷ cs) free) tt) l
+
+stage_back : (stage : Stage) → length (line_text (lines.Stage stage)) ≤ most_in_line → line_of (line_text (lines.Stage stage)) ≡ Some (lines.Stage stage)
+unfolding is_blank line_of_words stage_line
+stage_back Log le = alone_back _ _ (lines.Stage Log) refl refl le refl
+stage_back Flush le = alone_back _ _ (lines.Stage Flush) refl refl le refl
+stage_back Enact le = alone_back _ _ (lines.Stage Enact) refl refl le refl
+stage_back Clean le = alone_back _ _ (lines.Stage Clean) refl refl le refl
+stage_back Grow le = alone_back _ _ (lines.Stage Grow) refl refl le refl
+
 blank_back : line_of [] ≡ Some Blank
 unfolding line_of is_blank
 blank_back = refl
@@ -127,3 +143,4 @@ line_back (Job (Listing id prefix)) h le =
 line_back (Job (Root id)) h le =
     let words = split_join (codes "root") (id_text id ∷ []) (list_free (codes "root") refl) (id_free id h, tt) in
     line_is _ _ (Some (Job (Root id))) le refl words (root_back id h)
+line_back (lines.Stage stage) h le = stage_back stage le

@@ -10,9 +10,9 @@ use Rattle.sdb_base.specs.declared.Change.{Change}
 pub use Rattle.sdb_model.specs.Limits.{most_changes}
 use Rattle.sdb_model.specs.declared.Task.TheVariants.{Import, Read, Next, List as Listing, Root}
 use Rattle.sdb_script.specs.declared.line.Line.{Line}
-use Rattle.sdb_script.specs.declared.line.Line.TheVariants.{Blank, New, Genesis, Job}
+use Rattle.sdb_script.specs.declared.line.Line.TheVariants.{Blank, New, Genesis, Job, Stage}
 use Rattle.sdb_script.specs.Numbers.{number_within}
-use Rattle.sdb_script.specs.Words.{bytes_of, change_of, id_of, most_in_key}
+use Rattle.sdb_script.specs.Words.{bytes_of, change_of, id_of, most_in_key, stage_of}
 
 -- at most so many bytes in a line
 abbrev pub most_in_line : ℕ
@@ -84,6 +84,11 @@ unfoldable pub root_line : List (List ℕ) → Option Line
 root_line (i ∷ []) = option_map (λ id. Job (Root id)) (id_of i)
 root_line _ = None
 
+-- a stage's name, and no words after it
+unfoldable pub stage_line : List ℕ → List (List ℕ) → Option Line
+stage_line word [] = option_map (λ stage. Stage stage) (stage_of word)
+stage_line word _ = None
+
 -- by the first word
 unfoldable pub line_of_words : List (List ℕ) → Option Line
 line_of_words [] = None
@@ -95,7 +100,7 @@ line_of_words (w ∷ ws) =
     else if bytes_eq w (codes "next") then next_line ws
     else if bytes_eq w (codes "list") then list_line ws
     else if bytes_eq w (codes "root") then root_line ws
-    else None
+    else stage_line w ws
 
 -- the line of a text; none where it is none
 unfoldable pub line_of : List ℕ → Option Line

@@ -9,7 +9,10 @@ use Rattle.sdb_base.specs.declared.Change.{Change}
 use Rattle.sdb_model.specs.Limits.{BlockIsWithin, ChangeIsWithin, bytes_in_id, most_in_key}
 use Rattle.sdb_model.specs.declared.Task.TheVariants.{Import, Read, Next, List as Listing, Root}
 use Rattle.sdb_script.specs.declared.line.Line.{Line}
+use Rattle.sdb_script.specs.declared.line.Line.TheVariants as lines
 use Rattle.sdb_script.specs.declared.line.Line.TheVariants.{Blank, New, Genesis, Job}
+use Rattle.sdb_script.specs.declared.stage.Stage.{Stage}
+use Rattle.sdb_script.specs.declared.stage.Stage.TheVariants.{Log, Flush, Enact, Clean, Grow}
 use Rattle.sdb_script.specs.Grammar.{no_parent}
 use Rattle.sdb_script.specs.Texts.{bytes_text}
 
@@ -25,6 +28,14 @@ value_text None = 33 ∷ []
 abbrev pub change_text : Change → List ℕ
 change_text change = bytes_text change.key ++ value_text change.value
 
+-- the word that names a stage
+abbrev pub stage_name : Stage → List ℕ
+stage_name Log = codes "log"
+stage_name Flush = codes "flush"
+stage_name Enact = codes "enact"
+stage_name Clean = codes "clean"
+stage_name Grow = codes "grow"
+
 abbrev pub line_words : Line → List (List ℕ)
 line_words Blank = []
 line_words (New base) = codes "new" ∷ decimal base ∷ []
@@ -34,6 +45,7 @@ line_words (Job (Read id key)) = codes "read" ∷ id_text id ∷ bytes_text key 
 line_words (Job (Next id key)) = codes "next" ∷ id_text id ∷ bytes_text key ∷ []
 line_words (Job (Listing id prefix)) = codes "list" ∷ id_text id ∷ bytes_text prefix ∷ []
 line_words (Job (Root id)) = codes "root" ∷ id_text id ∷ []
+line_words (lines.Stage stage) = stage_name stage ∷ []
 
 -- the words with one space between them
 abbrev pub line_text : Line → List ℕ
@@ -70,3 +82,4 @@ IsWithin (Job (Read id key)) = IsId id × HasAtMost most_in_key key
 IsWithin (Job (Next id key)) = IsId id × HasAtMost most_in_key key
 IsWithin (Job (Listing id prefix)) = IsId id × HasAtMost most_in_key prefix
 IsWithin (Job (Root id)) = IsId id
+IsWithin (lines.Stage stage) = Unit {0}

@@ -1,5 +1,5 @@
 -- What single words spell: ids, keys, values and changes.
-use Rattle.std.specs.Prelude.{ℕ, ◌-◌, ◌==◌, ◌&&◌, nat_le, Bool, List, [], ◌∷◌, ◌++◌, length, replicate, if◌then◌else◌, Option, Some, None, option_and_then}
+use Rattle.std.specs.Prelude.{ℕ, ◌-◌, ◌==◌, ◌&&◌, nat_le, Bool, List, [], ◌∷◌, ◌++◌, length, replicate, codes, if◌then◌else◌, Option, Some, None, option_and_then}
 use Rattle.std.specs.Option.{option_map}
 use Rattle.std.specs.Result.{result_ok}
 use Rattle.std.specs.List.{after_first, before_first, list_any}
@@ -7,6 +7,8 @@ use Rattle.std.specs.Str.{bytes_eq}
 use Rattle.hex.specs.Hex.{decode_of}
 use Rattle.sdb_base.specs.declared.BlockId.{BlockId}
 use Rattle.sdb_base.specs.declared.Change.{Change}
+use Rattle.sdb_script.specs.declared.stage.Stage.{Stage}
+use Rattle.sdb_script.specs.declared.stage.Stage.TheVariants.{Log, Flush, Enact, Clean, Grow}
 pub use Rattle.sdb_model.specs.Limits.{most_in_key, most_in_value}
 
 -- an id of at most 32 bytes, with zero bytes before it
@@ -50,3 +52,13 @@ deletion_of word =
 -- a change: it sets a key to a value, or deletes it
 unfoldable pub change_of : List ℕ → Option Change
 change_of word = if list_any is_equals word then setting_of word else deletion_of word
+
+-- the stage that the word names
+abbrev pub stage_of : List ℕ → Option Stage
+stage_of word =
+    if bytes_eq word (codes "log") then Some Log
+    else if bytes_eq word (codes "flush") then Some Flush
+    else if bytes_eq word (codes "enact") then Some Enact
+    else if bytes_eq word (codes "clean") then Some Clean
+    else if bytes_eq word (codes "grow") then Some Grow
+    else None

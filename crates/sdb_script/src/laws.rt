@@ -3,6 +3,7 @@ ghost use Rattle.std.specs.Fmt.{decimal};
 ghost use Rattle.sdb_model.specs.declared.Task.TheVariants as tasks;
 ghost use Rattle.sdb_script.specs.declared.line.Line.TheVariants as lines;
 ghost use Rattle.sdb_script.specs.declared.line.Line.{Line};
+ghost use Rattle.sdb_script.specs.declared.stage.Stage.TheVariants as stages;
 ghost use Rattle.sdb_script.specs.Grammar.{line_of, most_in_line};
 ghost use Rattle.sdb_script.specs.LineTexts.{line_text, IsWithin};
 ghost use Rattle.sdb_script.specs.Numbers.{number_spelled};
@@ -38,6 +39,8 @@ pub fn known_lines()
         ∷ [] }
     ensures root { line_of (codes "root 0a")
         ≡ Some (lines.Job (tasks.Root (record { 0 = replicate 31 0 ++ 10 ∷ [] }))) }
+    ensures stages { map line_of (codes "log" ∷ codes "flush" ∷ codes "enact" ∷ codes "clean" ∷ codes "grow" ∷ [])
+        ≡ map (λ stage. Some (lines.Stage stage)) (stages.Log ∷ stages.Flush ∷ stages.Enact ∷ stages.Clean ∷ stages.Grow ∷ []) }
     ensures none { map line_of (
         codes "new 00" ∷ codes "new 17" ∷ codes "new" ∷ codes "new 1 " ∷ codes "New 1"
         ∷ codes "read 01 a" ∷ codes "read 01  aa" ∷ codes "read 01 aa " ∷ codes "read  aa" ∷ codes "read 1 aa"
@@ -48,8 +51,9 @@ pub fn known_lines()
         ∷ codes "list 01 a" ∷ codes "list 01 aaa" ∷ codes "list 01 aa bb" ∷ codes "list 01" ∷ codes "list 01 "
         ∷ codes "lists 01 aa"
         ∷ codes "root" ∷ codes "root 01 aa" ∷ codes "root 1"
+        ∷ codes "log " ∷ codes "Log" ∷ codes "logs" ∷ codes "log x" ∷ codes "flush log" ∷ codes " grow"
         ∷ []
-        ) ≡ replicate 32 None }
+        ) ≡ replicate 38 None }
 {}
 
 /// A number is spelled by its decimal digits and by no other word.

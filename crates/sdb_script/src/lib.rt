@@ -14,6 +14,7 @@ mod laws;
 mod line;
 mod number;
 mod parse;
+mod stage;
 mod text;
 mod word;
 
@@ -22,6 +23,7 @@ pub use laws::{
 };
 pub use line::{Line, LineFault, LineReply};
 pub use parse::{MOST_IN_LINE, parse_line};
+pub use stage::Stage;
 pub use text::reply_text;
 
 #[cfg(test)]

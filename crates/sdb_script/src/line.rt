@@ -1,7 +1,8 @@
 ghost use Rattle.std.specs.Prelude.{◌≡◌};
 ghost use Rattle.sdb_script.specs.declared.line.LineFault.TheVariants.{OutOfMemory};
 
-use sdb_base::Block;
+use crate::stage::Stage;
+use sdb_base::{Block, StageAnswer};
 use sdb_model::{Refusal, Reply, Task};
 use std::alloc::{AllocError, AllocFailed};
 use thiserror::Error;
@@ -29,6 +30,8 @@ pub enum Line {
         /// The job's task.
         task: Task,
     },
+    /// `log`, `flush`, `enact`, `clean` or `grow`: one step of this stage of the pipeline.
+    Stage(Stage),
 }
 
 /// The reply to a line.
@@ -40,6 +43,8 @@ pub enum LineReply {
     Genesis,
     /// To a job.
     Job(Reply),
+    /// To a line of a stage: what the stage answered.
+    Stage(StageAnswer),
     /// To a line that is no job, and was refused: a second `genesis`.
     Refused(Refusal),
 }

@@ -1,5 +1,5 @@
 ghost use Rattle.std.specs.Prelude.{◌≡◌, Some, None, IfOk, IsErrOf};
-ghost use Rattle.sdb_script.specs.Grammar.{line_of, is_blank, new_line, genesis_line, import_line, id_and_key, read_line, next_line, list_line, root_line, line_of_words, words_of};
+ghost use Rattle.sdb_script.specs.Grammar.{line_of, is_blank, new_line, genesis_line, import_line, id_and_key, read_line, next_line, list_line, root_line, stage_line, line_of_words, words_of};
 ghost use Rattle.sdb_script.specs.LineTexts.{IsWithin};
 ghost use Rattle.sdb_script.specs.inner.Reading.{IsParsed, words_left};
 
@@ -7,6 +7,7 @@ use crate::changes::parse_changes;
 use crate::cursor::{first_word, next_word};
 use crate::line::{Line, LineFault};
 use crate::number::parse_number;
+use crate::stage::parse_stage_name;
 use crate::word::{parse_id, parse_key};
 use sdb_base::{Block, BlockId, Bytes};
 use sdb_model::Task;
@@ -137,6 +138,17 @@ fn parse_root(words: Option<&[u8]>) -> Option<Line>
     })
 }
 
+// The line of a stage's name, which no words follow.
+#[tactic(auto, using(crate::proofs::Longer::stage_longer), unfolding(crate::specs::Grammar::stage_line))]
+fn parse_stage(word: &[u8], words: Option<&[u8]>) -> Option<Line>
+    ensures { result ≡ stage_line word.now (words_left words.entry) }
+{
+    match words {
+        None => Some(Line::Stage(parse_stage_name(word)?)),
+        Some(_) => None,
+    }
+}
+
 // The line of a text of words.
 #[tactic(auto, unfolding(crate::specs::Grammar::line_of_words))]
 fn parse_words(alloc: Global, line: &[u8]) -> Result<Line, LineFault>
@@ -158,7 +170,7 @@ fn parse_words(alloc: Global, line: &[u8]) -> Result<Line, LineFault>
     } else if word == b"root".as_slice() {
         parse_root(words).ok_or(LineFault::NotInGrammar)
     } else {
-        Err(LineFault::NotInGrammar)
+        parse_stage(word, words).ok_or(LineFault::NotInGrammar)
     }
 }
 

@@ -1,5 +1,5 @@
 use super::*;
-use sdb_base::{BlockId, Bytes, Change, Keys, NodeHash};
+use sdb_base::{BlockId, Bytes, Change, Grown, Keys, Logged, NodeHash, StageAnswer};
 use sdb_model::{Refusal, Reply, Task};
 use std::alloc::{AllocError, Global};
 use std::test::*;
@@ -156,6 +156,23 @@ fn root_lines(rt: HostRuntime) -> Result<(), Fail> {
 }
 
 #[test]
+fn stage_lines(rt: HostRuntime) {
+    for (text, want) in [
+        ("log", Stage::Log),
+        ("flush", Stage::Flush),
+        ("enact", Stage::Enact),
+        ("clean", Stage::Clean),
+        ("grow", Stage::Grow),
+    ] {
+        let line = parse_line(rt.alloc(), text.as_bytes());
+        assert!(rt;
+            matches!(line, Ok(Line::Stage(stage)) if stage == want),
+            "{text}"
+        );
+    }
+}
+
+#[test]
 fn texts_that_are_no_lines(rt: HostRuntime) {
     for text in [
         " ",
@@ -209,6 +226,19 @@ fn texts_that_are_no_lines(rt: HostRuntime) {
         "roots 01",
         "read 000000000000000000000000000000000000000000000000000000000000000001 aa",
         "#\n",
+        "log ",
+        "Log",
+        "logs",
+        "log x",
+        "log log",
+        " log",
+        "lo",
+        "flush 1",
+        "flushed",
+        "enact -",
+        "clean 01",
+        "grow ",
+        "GROW",
     ] {
         let line = parse_line(rt.alloc(), text.as_bytes());
         assert!(rt; matches!(line, Err(LineFault::NotInGrammar)), "{text}");
@@ -276,6 +306,50 @@ fn replies(rt: HostRuntime) -> Result<(), Fail> {
         ),
     ] {
         let text = text_of(alloc, reply)?;
+        assert_eq!(rt; text.as_slice(), want.as_bytes(), "{want}");
+    }
+    Ok(())
+}
+
+#[test]
+fn answers_of_stages(rt: HostRuntime) -> Result<(), Fail> {
+    for (answer, want) in [
+        (StageAnswer::Logged(Logged::Commit(5)), "> logged 5"),
+        (
+            StageAnswer::Logged(Logged::Started {
+                column: 0,
+                bits: 1,
+                chunk: 16,
+            }),
+            "> started 0 1 16",
+        ),
+        (
+            StageAnswer::Logged(Logged::Moved {
+                column: 1,
+                bits: 30,
+                left: 1_073_741_823,
+            }),
+            "> moved 1 30 1073741823",
+        ),
+        (StageAnswer::Logged(Logged::Idle), "> idle"),
+        (StageAnswer::Flushed(0), "> flushed 0"),
+        (StageAnswer::Enacted(Some(12)), "> enacted 12"),
+        (StageAnswer::Enacted(None), "> idle"),
+        (
+            StageAnswer::Cleaned(18_446_744_073_709_551_615),
+            "> cleaned 18446744073709551615",
+        ),
+        (
+            StageAnswer::Grown(Grown::Moved {
+                column: 0,
+                bits: 2,
+                left: 0,
+            }),
+            "> moved 0 2 0",
+        ),
+        (StageAnswer::Grown(Grown::Idle), "> idle"),
+    ] {
+        let text = text_of(rt.alloc(), LineReply::Stage(answer))?;
         assert_eq!(rt; text.as_slice(), want.as_bytes(), "{want}");
     }
     Ok(())

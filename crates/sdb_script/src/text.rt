@@ -1,10 +1,10 @@
 ghost use Rattle.std.specs.Prelude.{◌≡◌, ◌++◌, codes, length, take, OnOk, OnErr};
 ghost use Rattle.std.specs.Fmt.{decimal};
 ghost use Rattle.sdb_script.specs.Texts as texts;
-ghost use Rattle.sdb_script.specs.Texts.{bytes_text, job_text, keys_text, refusal_text, refused_text};
+ghost use Rattle.sdb_script.specs.Texts.{bytes_text, grown_text, index_text, job_text, keys_text, logged_text, refusal_text, refused_text, stage_text};
 
 use crate::line::LineReply;
-use sdb_base::{Keys, OutOfMemory};
+use sdb_base::{Grown, Keys, Logged, OutOfMemory, StageAnswer};
 use sdb_model::{Refusal, Reply};
 use std::alloc::{AllocError, Global};
 
@@ -31,6 +31,7 @@ fn append_reply(alloc: Global, reply: &LineReply, out: &mut Vec<u8>) -> Result<(
         LineReply::New => out.extend_from_slice(b"new"),
         LineReply::Genesis => out.extend_from_slice(b"genesis"),
         LineReply::Job(reply) => append_job(alloc, reply, out),
+        LineReply::Stage(answer) => append_stage(alloc, *answer, out),
         LineReply::Refused(refusal) => append_refused(alloc, *refusal, out),
     }
 }
@@ -63,6 +64,68 @@ fn append_listed(alloc: Global, keys: &Keys, out: &mut Vec<u8>) -> Result<(), Al
         append_bytes(alloc, b" ", key.as_slice(), out)?;
     }
     Ok(())
+}
+
+// What a stage answered.
+fn append_stage(alloc: Global, answer: StageAnswer, out: &mut Vec<u8>) -> Result<(), AllocError>
+    ensures ok { OnOk result (out.new.items ≡ out.old.items ++ stage_text answer) }
+    ensures err { OnErr result (take (length out.old.items) out.new.items ≡ out.old.items) }
+{
+    match answer {
+        StageAnswer::Logged(logged) => append_logged(alloc, logged, out),
+        StageAnswer::Flushed(number) => append_number(alloc, b"flushed ", number, out),
+        StageAnswer::Enacted(Some(number)) => append_number(alloc, b"enacted ", number, out),
+        StageAnswer::Enacted(None) => out.extend_from_slice(b"idle"),
+        StageAnswer::Cleaned(number) => append_number(alloc, b"cleaned ", number, out),
+        StageAnswer::Grown(grown) => append_grown(alloc, grown, out),
+    }
+}
+
+fn append_logged(alloc: Global, logged: Logged, out: &mut Vec<u8>) -> Result<(), AllocError>
+    ensures ok { OnOk result (out.new.items ≡ out.old.items ++ logged_text logged) }
+    ensures err { OnErr result (take (length out.old.items) out.new.items ≡ out.old.items) }
+{
+    match logged {
+        Logged::Commit(number) => append_number(alloc, b"logged ", number, out),
+        Logged::Started {
+            column,
+            bits,
+            chunk,
+        } => append_index(alloc, b"started ", column, bits, chunk, out),
+        Logged::Moved { column, bits, left } => {
+            append_index(alloc, b"moved ", column, bits, left, out)
+        }
+        Logged::Idle => out.extend_from_slice(b"idle"),
+    }
+}
+
+fn append_grown(alloc: Global, grown: Grown, out: &mut Vec<u8>) -> Result<(), AllocError>
+    ensures ok { OnOk result (out.new.items ≡ out.old.items ++ grown_text grown) }
+    ensures err { OnErr result (take (length out.old.items) out.new.items ≡ out.old.items) }
+{
+    match grown {
+        Grown::Moved { column, bits, left } => {
+            append_index(alloc, b"moved ", column, bits, left, out)
+        }
+        Grown::Idle => out.extend_from_slice(b"idle"),
+    }
+}
+
+// The front, and then a column, the bits of its index and a number, with one space between.
+fn append_index(
+    alloc: Global,
+    front: &[u8],
+    column: u8,
+    bits: u8,
+    number: u64,
+    out: &mut Vec<u8>,
+) -> Result<(), AllocError>
+    ensures ok { OnOk result (out.new.items ≡ out.old.items ++ (front.now ++ index_text column bits number)) }
+    ensures err { OnErr result (take (length out.old.items) out.new.items ≡ out.old.items) }
+{
+    append_number(alloc, front, u64::from(column), out)?;
+    append_number(alloc, b" ", u64::from(bits), out)?;
+    append_number(alloc, b" ", number, out)
 }
 
 fn append_refused(alloc: Global, refusal: Refusal, out: &mut Vec<u8>) -> Result<(), AllocError>

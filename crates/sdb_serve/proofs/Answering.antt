@@ -1,6 +1,7 @@
 -- What each kind of line is answered, by what is known before it.
 use Rattle.std.proofs.Common.{◌≡◌, ◌≢◌, ℕ, ◌+◌, ◌<◌, ◌≤◌, ◌==◌, true, false, List, [], ◌∷◌, length, refl, sym, ◌∙◌, arith, inl, inr, Option, Some, None}
 use Rattle.std.proofs.lemmas.Bool.{cases_lt, le-ltb, lt-ltb, ne_eqb}
+use Rattle.sdb_base.specs.Pipeline.{with_commit}
 use Rattle.sdb_base.specs.declared.Block.{Block}
 use Rattle.sdb_base.specs.declared.NodeHash.{NodeHash}
 use Rattle.sdb_model.specs.declared.Refusal.TheVariants.{HasGenesis, NoGenesis}
@@ -12,12 +13,15 @@ use Rattle.sdb_script.specs.declared.Line.{Line}
 use Rattle.sdb_script.specs.declared.Line.TheVariants as lines
 use Rattle.sdb_script.specs.declared.LineReply.{LineReply}
 use Rattle.sdb_script.specs.declared.LineReply.TheVariants as replies
+use Rattle.sdb_script.specs.declared.Stage.{Stage}
 use Rattle.sdb_serve.specs.inner.Pieces.{as_piece}
+use Rattle.sdb_serve.specs.inner.Kept.{MeetsNoBadNode}
 use Rattle.sdb_serve.specs.inner.Steps.{play_fault_of}
 use Rattle.sdb_serve.specs.declared.nodes.NodeFault.{NodeFault}
 use Rattle.sdb_serve.specs.declared.nodes.NodeFault.TheVariants as nodes
 use Rattle.sdb_serve.specs.declared.session.PlayFault.TheVariants.{BadNode}
 use Rattle.sdb_serve.specs.Session.{SessionState, answer, answer_job, play_line, most_bytes, reply_lines}
+use Rattle.sdb_serve.specs.StageLines.{after_stage, pipeline_after, stage_reply}
 
 pub blank : (s : SessionState) → answer s lines.Blank ≡ Some (None, s)
 unfolding answer
@@ -32,7 +36,7 @@ unfolding answer
 new_again s base e = rw e refl
 
 pub genesis_first : (s : SessionState) (window : ℕ) (b : Block) → s.begun ≡ true → s.blocks ≡ []
-    → answer s (lines.Genesis window b) ≡ Some (Some replies.Genesis, record s { window = window; blocks = b ∷ [] })
+    → answer s (lines.Genesis window b) ≡ Some (Some replies.Genesis, record s { window = window; blocks = b ∷ []; pipeline = with_commit s.pipeline })
 unfolding answer
 genesis_first s window b e f = rw (e, f) refl
 
@@ -59,9 +63,19 @@ unfolding answer
 job_without_genesis s task e f = rw (e, f) refl
 
 pub job_is : (s : SessionState) (task : Task) (reply : Reply) → s.begun ≡ true → s.blocks ≢ [] → reply ≡ (answer_job s.blocks task).0
-    → answer s (lines.Job task) ≡ Some (Some (replies.Job reply), record s { blocks = (answer_job s.blocks task).1 })
+    → answer s (lines.Job task)
+    ≡ Some (Some (replies.Job reply), record s { blocks = (answer_job s.blocks task).1; pipeline = pipeline_after (answer_job s.blocks task).0 s.pipeline })
 unfolding answer
 job_is s task reply e h f = rw (e, some_blocks s.blocks h, f) refl
+
+pub stage_early : (s : SessionState) (stage : Stage) → s.begun ≡ false → answer s (lines.Stage stage) ≡ None
+unfolding answer
+stage_early s stage e = rw e refl
+
+pub stage_line : (s : SessionState) (stage : Stage) → s.begun ≡ true
+    → answer s (lines.Stage stage) ≡ Some (Some (replies.Stage (stage_reply s.pipeline stage)), record s { pipeline = after_stage s.pipeline stage })
+unfolding answer
+stage_line s stage e = rw e refl
 
 -- ---- a line's text
 
@@ -115,6 +129,7 @@ some_piece (b ∷ bs) e = refl
 -- ---- a job's fault
 
 -- a job meets a bad node only where that isn't ruled out
-pub meets_node : (fault : NodeFault) (hash : NodeHash) → play_fault_of fault ≡ BadNode hash → fault ≡ nodes.OutOfMemory → ⊥
+pub meets_node : (fault : NodeFault) (hash : NodeHash) → play_fault_of fault ≡ BadNode hash → MeetsNoBadNode fault → ⊥
 meets_node nodes.OutOfMemory hash e f = absurd cc
-meets_node (nodes.BadNode other) hash e f = absurd cc
+meets_node (nodes.BadNode other) hash e f = f
+meets_node (nodes.Keep fault) hash e f = absurd cc

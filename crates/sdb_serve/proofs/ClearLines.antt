@@ -18,7 +18,7 @@ use Rattle.sdb_script.specs.declared.Line.TheVariants as lines
 use Rattle.sdb_script.specs.declared.LineReply.{LineReply}
 use Rattle.sdb_serve.specs.Jobs.{after_import, import_on, import_reply}
 use Rattle.sdb_serve.specs.Session.{SessionState, answer, answer_job}
-use Rattle.sdb_serve.proofs.Answering.{blank, genesis_again, genesis_early, job_early, job_is, new_again, new_first}
+use Rattle.sdb_serve.proofs.Answering.{blank, genesis_again, genesis_early, job_early, job_is, new_again, new_first, stage_early, stage_line}
 
 no_state : (id : BlockId) (state : State) → chain_of [] id ≡ None → state_of [] id ≡ Some state → ⊥
 no_state id state e f = absurd cc
@@ -125,3 +125,5 @@ before_line s (lines.Job task) a false b none e clear = absurd (never s _ a (job
 before_line s (lines.Job task) a true b (inl none) e clear = subst Clear (sym none) no_blocks
 before_line s (lines.Job task) a true b (inr some) e clear =
     before_job s.blocks task (at_blocks _ a (one_answer s _ _ a (job_is s task (answer_job s.blocks task).0 b some refl) e) clear)
+before_line s (lines.Stage stage) a false b none e clear = absurd (never s _ a (stage_early s stage b) e)
+before_line s (lines.Stage stage) a true b none e clear = at_blocks _ a (one_answer s _ _ a (stage_line s stage b) e) clear

@@ -42,17 +42,19 @@ line_reply s (lines.Genesis window block) model reply after e may clear = may
 line_reply s (lines.Job task) None reply after e may clear = may
 line_reply s (lines.Job task) (Some replies.New) reply after e may clear = may
 line_reply s (lines.Job task) (Some replies.Genesis) reply after e may clear = may
+line_reply s (lines.Stage stage) model reply after e may clear = may
+line_reply s (lines.Job task) (Some (replies.Stage answer)) reply after e may clear = may
 line_reply s (lines.Job task) (Some (replies.Refused refusal)) reply after e may clear = may
 line_reply s (lines.Job task) (Some (replies.Job model)) reply after e may clear =
     may.1 ∙ ap (λ (r : Reply). Some (replies.Job r)) (job_reply s task model may.0 after s.begun refl (empty_or_not s.blocks) e may.2 may.3 clear)
 
-abbrev Played : Type 0
+abbrev pub Played : Type 0
 Played = List (List ℕ) × SessionState
 
-some_played : (x y : Played) → ◌≡◌ {A = Option Played} (Some x) (Some y) → x ≡ y
+pub some_played : (x y : Played) → ◌≡◌ {A = Option Played} (Some x) (Some y) → x ≡ y
 some_played x y e = cc
 
-no_played : (y : Played) → ◌≡◌ {A = Option Played} None (Some y) → ⊥
+pub no_played : (y : Played) → ◌≡◌ {A = Option Played} None (Some y) → ⊥
 no_played y e = absurd cc
 
 -- the blocks after a line are those after its answer

@@ -28,7 +28,7 @@ no_room number siblings full = ap (λ t. cond t (Refused (TooManySiblings number
 pub room : (number siblings : ℕ) → siblings < most_siblings → Imported number ≡ by_room number siblings
 room number siblings less = ap (λ t. cond t (Refused (TooManySiblings number)) (Imported number)) (sym (lt-leb most_siblings siblings less))
 
-module _ (m : BlockMap) (blocks : List Block) (b : Block) (represents : RepresentsBlocks m blocks) where
+module _ {K : Type 0} (m : BlockMap K) (blocks : List Block) (b : Block) (represents : RepresentsBlocks m blocks) where
   parent_number : (o : Option BlockEntry) → get id_cmp m.blocks b.parent ≡ o → number_of blocks b.parent ≡ option_map (λ (k : BlockEntry). k.number) o
   parent_number o e = sym (represents.numbers b.parent) ∙ ap (option_map (λ (k : BlockEntry). k.number)) e
 

@@ -1,19 +1,17 @@
 -- What a commit of references leaves of the nodes that were kept.
-use Rattle.std.proofs.Common.{◌≡◌, ◌⊎◌, ℕ, Bool, true, false, cond, List, [], ◌∷◌, ◌++◌, Option, Some, None, refl, sym, ap, ◌∙◌, inl, inr}
+use Rattle.std.proofs.Common.{◌≡◌, ℕ, Bool, true, false, cond, List, [], ◌∷◌, ◌++◌, Option, Some, None, refl, sym, ap, subst, ◌∙◌, inl, inr}
+use Rattle.std.specs.Prelude.{Contains}
 use Rattle.std.specs.Str.{bytes_eq}
 use Rattle.std.proofs.lemmas.Cmp.{nat_list_eq_equiv}
-use Rattle.std.proofs.lemmas.Option.{same_Some}
-use Rattle.std.proofs.lemmas.Slice.Eq.{bytes_eq-Decides}
-use Rattle.sdb_base.specs.Content.{Counted, node_after, node_from, with_reference}
-use Rattle.sdb_base.specs.Keeping.{Commits, HasShortKey}
-use Rattle.sdb_base.specs.MapKeeping.{KeepsCommits, kept_node}
-use Rattle.sdb_base.specs.declared.map_keeper.MapKeeper.{MapKeeper}
+use Rattle.sdb_base.specs.Content.{Counted, node_after, node_from, node_under, with_reference}
+use Rattle.sdb_base.specs.Keeping.{Commits, HasShortKey, IsNodeAnswer, operations}
 use Rattle.sdb_base.specs.declared.node.Node.{Node}
+use Rattle.sdb_blake2.specs.Blake2b.{H}
 use Rattle.sdb_base.proofs.Commits.{node_more}
 use Rattle.std.specs.List.{AllByRecursion}
 use Rattle.sdb_base.specs.declared.op.Op.{Op}
-use Rattle.trie_read.proofs.Among.{Among, among_from, contains_from}
-use Rattle.sdb_serve.specs.inner.Kept.{AddsNodes, reference_to, references_to}
+use Rattle.trie_read.proofs.Among.{Among, among_from}
+use Rattle.sdb_serve.specs.inner.Kept.{IsKept, reference_to, references_to}
 
 -- bytes stay under a key
 abbrev Stays : List ℕ → Option Counted → Type 0
@@ -49,42 +47,28 @@ is_there n now (o ∷ ns) (inl e) =
     (more.0, ap (λ s. node_from n.hash.0 s (references_to ns)) first ∙ more.1)
 is_there n now (o ∷ ns) (inr a) = is_there n (node_after n.hash.0 now (reference_to o)) ns a
 
--- what is under a key was there, or is a node's of this hash
-abbrev ComesFrom : List ℕ → Option Counted → List Node → Counted → Type 0
-ComesFrom key now ns d = ((c : Counted) × (now ≡ Some c) × (d.bytes ≡ c.bytes)) ⊎ ((n : Node) × Among n ns × (n.hash.0 ≡ key) × (n.bytes ≡ d.bytes))
-
-one_comes : (key : List ℕ) (now : Option Counted) (n : Node) (ns : List Node) (c d : Counted) (t : Bool) → bytes_eq n.hash.0 key ≡ t
-    → cond t (with_reference n.bytes now) now ≡ Some c → d.bytes ≡ c.bytes → ComesFrom key now (n ∷ ns) d
-one_comes key None n ns c d true test e same =
-    let first : n.bytes ≡ c.bytes = ap (λ (x : Counted). x.bytes) (same_Some _ c e) in
-    inr (n, inl refl, (bytes_eq-Decides n.hash.0 key).0 test, first ∙ sym same)
-one_comes key (Some b) n ns c d true test e same =
-    let first : b.bytes ≡ c.bytes = ap (λ (x : Counted). x.bytes) (same_Some _ c e) in
-    inl (b, refl, same ∙ sym first)
-one_comes key now n ns c d false test e same = inl (c, e, same)
-
-pub comes_from : (key : List ℕ) (now : Option Counted) (ns : List Node) (d : Counted) → node_from key now (references_to ns) ≡ Some d → ComesFrom key now ns d
-comes_from key now [] d e = inl (d, e, refl)
-comes_from key now (n ∷ ns) d e = elim (comes_from key (node_after key now (reference_to n)) ns d e) [
-  | inl before ↦ one_comes key now n ns before.0 d (bytes_eq n.hash.0 key) refl before.1 before.2
-  | inr later ↦ inr (later.0, inr later.1, later.2, later.3)
-]
-
 pub short_keys : (ns : List Node) → AllByRecursion HasShortKey (references_to ns)
 short_keys [] = tt
 short_keys (n ∷ ns) = (tt, short_keys ns)
 
--- what is kept after the commit
-pub adds_nodes : (old new : MapKeeper) (commits : Commits) (ops : List Op) (puts : List Node) → KeepsCommits old commits → ops ≡ references_to puts
-    → KeepsCommits new (commits ++ ops ∷ []) → AddsNodes old new puts
-adds_nodes old new commits ops puts before is after =
-    let now : (key : List ℕ) → kept_node new key ≡ node_from key (kept_node old key) (references_to puts) =
-    λ key. after.nodes key ∙ sym (node_more commits ops key) ∙ ap (λ s. node_from key s ops) (sym (before.nodes key)) ∙ ap (node_from key (kept_node old key)) is in
+-- Nodes were added by a commit: what was kept still is, and each of the nodes has bytes under its hash.
+pub record AddsNodes (commits : Commits) (puts : List Node) : Type 0 where
+  pub still : (key : List ℕ) (c : Counted) → node_under (operations commits) key ≡ Some c
+      → (d : Counted) × (node_under (operations (commits ++ references_to puts ∷ [])) key ≡ Some d) × (d.bytes ≡ c.bytes)
+  pub each : (n : Node) → Contains puts n → (d : Counted) × (node_under (operations (commits ++ references_to puts ∷ [])) n.hash.0 ≡ Some d)
+
+pub adds_nodes : (commits : Commits) (puts : List Node) → AddsNodes commits puts
+adds_nodes commits puts =
+    let now : (key : List ℕ) → node_under (operations (commits ++ references_to puts ∷ [])) key ≡ node_from key (node_under (operations commits) key) (references_to puts) =
+    λ key. sym (node_more commits (references_to puts) key) in
     record {
       still = λ key c e. let s = stays key c puts in (s.0, now key ∙ ap (λ o. node_from key o (references_to puts)) e ∙ s.1, s.2);
-      each = λ n there. let s = is_there n (kept_node old n.hash.0) puts (among_from n puts there) in (s.0, now n.hash.0 ∙ s.1);
-      only = λ key d e. elim (comes_from key (kept_node old key) puts d (sym (now key) ∙ e)) [
-        | inl old ↦ inl old
-        | inr put ↦ inr (put.0, contains_from put.0 puts put.1, put.2, put.3)
-      ];
+      each = λ n there. let s = is_there n (node_under (operations commits) n.hash.0) puts (among_from n puts there) in (s.0, now n.hash.0 ∙ s.1);
     }
+
+-- what a keeper may answer for the hash of bytes that are kept
+pub kept_answer : (commits : Commits) (bytes hash : List ℕ) (r : Option (List ℕ)) → IsKept commits bytes → hash ≡ H bytes
+    → IsNodeAnswer commits hash (node_under (operations commits) hash) r → r ≡ Some bytes
+kept_answer commits bytes hash r kept e answer =
+    let there : node_under (operations commits) hash ≡ Some kept.0 = ap (node_under (operations commits)) e ∙ kept.1 in
+    subst (λ (o : Option Counted). IsNodeAnswer commits hash o r) there answer ∙ ap Some kept.2

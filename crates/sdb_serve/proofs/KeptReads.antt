@@ -4,6 +4,7 @@ use Rattle.std.specs.BTreeMap.{get}
 use Rattle.std.specs.FinMap as states
 use Rattle.std.specs.Option.{option_map}
 use Rattle.std.proofs.lemmas.Option.{none-some, same_Some}
+use Rattle.sdb_base.specs.Keeping.{Commits}
 use Rattle.sdb_base.specs.declared.Block.{Block}
 use Rattle.sdb_base.specs.declared.BlockId.{BlockId}
 use Rattle.sdb_base.specs.declared.NodeHash.{NodeHash}
@@ -11,32 +12,30 @@ use Rattle.sdb_model.proofs.Counts.{is_some-option_map}
 use Rattle.sdb_model.specs.Blocks.{chain_of, state_of}
 use Rattle.sdb_model.specs.Clear.{Clear}
 use Rattle.sdb_model.specs.State.{State}
-use Rattle.sdb_model.specs.declared.Refusal.{Refusal}
 use Rattle.sdb_model.specs.declared.Reply.{Reply}
-use Rattle.sdb_model.specs.declared.Reply.TheVariants.{Imported, Listed, Refused}
-use Rattle.sdb_model.specs.declared.Task.{Task}
+use Rattle.sdb_model.specs.declared.Reply.TheVariants.{Listed, Root}
 use Rattle.sdb_model.specs.declared.Task.TheVariants as tasks
 use Rattle.trie_model.specs.Fetches.{keys_with_prefix, next_key}
-use Rattle.sdb_serve.specs.Jobs.{key_reply, list_reply, next_reply, read_reply, value_reply}
-use Rattle.sdb_serve.specs.Replies.{IsOfKind, IsOfTask, MayAnswer}
-use Rattle.sdb_serve.specs.Session.{answer_job}
-use Rattle.sdb_serve.specs.inner.Blocks.{RepresentsBlocks, id_cmp}
+use Rattle.sdb_serve.specs.Jobs.{key_reply, list_reply, next_reply, read_reply, root_reply, value_reply}
+use Rattle.sdb_serve.specs.Replies.{IsOfKind, IsOfTask}
+use Rattle.sdb_serve.specs.inner.Blocks.{KeepsBlocks, KeepsStates, RepresentsBlocks, id_cmp}
 use Rattle.sdb_serve.specs.inner.Kept.{IsKeptState}
 use Rattle.sdb_serve.specs.declared.blocks.BlockEntry.{BlockEntry}
 use Rattle.sdb_serve.specs.declared.blocks.BlockMap.{BlockMap}
 use Rattle.sdb_serve.proofs.Keeping.{entry_has_chain, no_value}
+use Rattle.sdb_serve.proofs.KeptStates.{alike}
 
 -- a block has this state, whose root this is and whose nodes are kept
-pub record IsKnown (m : BlockMap) (blocks : List Block) (id : BlockId) (root : NodeHash) : Type 0 where
+pub record IsKnown {K : Type 0} (m : BlockMap K) (blocks : List Block) (id : BlockId) (root : NodeHash) : Type 0 where
   pub state : State
   pub of_block : state_of blocks id ≡ Some state
-  pub kept : Clear blocks → IsKeptState m.keeper root.0 state
+  pub kept : (commits : Commits) → KeepsStates m blocks commits → Clear blocks → IsKeptState commits root.0 state
 
 some_value : {A : Type 0} (o : Option A) → is_some o ≡ true → (x : A) × (o ≡ Some x)
 some_value None e = absurd cc
 some_value (Some x) e = (x, refl)
 
-module _ (m : BlockMap) (blocks : List Block) (id : BlockId) (r : RepresentsBlocks m blocks) where
+module _ {K : Type 0} (m : BlockMap K) (blocks : List Block) (id : BlockId) (r : RepresentsBlocks m blocks) where
   known_as : is_some (get id_cmp m.blocks id) ≡ is_some (state_of blocks id)
   known_as = entry_has_chain m blocks id r ∙ sym (is_some-option_map _ (chain_of blocks id))
 
@@ -53,11 +52,11 @@ module _ (m : BlockMap) (blocks : List Block) (id : BlockId) (r : RepresentsBloc
       record {
         state = there.0;
         of_block = there.1;
-        kept = λ clear. let kept = r.states clear in record {
-          reliable = r.reliable;
+        kept = λ commits kept clear. record {
           entries_are = r.entries_are id there.0 there.1;
           root_is = ap (λ (h : NodeHash). h.0) same ∙ kept.roots id k there.0 at there.1;
           nodes = kept.nodes id there.0 there.1;
+          alike = alike m blocks commits clear kept;
         };
       }
 
@@ -66,39 +65,36 @@ module _ (m : BlockMap) (blocks : List Block) (id : BlockId) (r : RepresentsBloc
 
 -- ---- replies
 
-module _ (blocks : List Block) where
-  pub refused : (task : Task) (refusal : Refusal) → Refused refusal ≡ (answer_job blocks task).0 → MayAnswer blocks task (Refused refusal)
-  refused task refusal e = record { kind = subst (λ (r : Reply). IsOfKind task r (Refused refusal)) e refl; clear = λ clear. e }
+module _ {K : Type 0} (m : BlockMap K) (blocks : List Block) (id : BlockId) (root : NodeHash) (is : IsKnown m blocks id root) where
+  pub read_kind : (key : List ℕ) (reply : Reply) → IsOfTask (tasks.Read id key) reply → IsOfKind (tasks.Read id key) (read_reply (state_of blocks id) key) reply
+  read_kind key reply of = subst (λ (o : Option State). IsOfKind (tasks.Read id key) (read_reply o key) reply) (sym is.of_block) (by_value (states.get is.state key))
+    where
+      by_value : (o : Option (List ℕ)) → IsOfKind (tasks.Read id key) (value_reply o) reply
+      by_value None = of
+      by_value (Some value) = of
 
-  pub imported : (block : Block) (number : ℕ) → Imported number ≡ (answer_job blocks (tasks.Import block)).0 → MayAnswer blocks (tasks.Import block) (Imported number)
-  imported block number e = record { kind = subst (λ (r : Reply). IsOfKind (tasks.Import block) r (Imported number)) e refl; clear = λ clear. e }
+  pub read_same : (key : List ℕ) (o : Option (List ℕ)) → o ≡ states.get is.state key → value_reply o ≡ read_reply (state_of blocks id) key
+  read_same key o e = ap value_reply e ∙ ap (λ (s : Option State). read_reply s key) (sym is.of_block)
 
-  module _ (m : BlockMap) (id : BlockId) (root : NodeHash) (is : IsKnown m blocks id root) where
-    pub read_may : (key : List ℕ) (reply : Reply) → IsOfTask (tasks.Read id key) reply
-        → (IsKeptState m.keeper root.0 is.state → reply ≡ value_reply (states.get is.state key)) → MayAnswer blocks (tasks.Read id key) reply
-    read_may key reply of same = record {
-      kind = subst (λ (o : Option State). IsOfKind (tasks.Read id key) (read_reply o key) reply) (sym is.of_block) (by_value (states.get is.state key));
-      clear = λ clear. same (is.kept clear) ∙ ap (λ (o : Option State). read_reply o key) (sym is.of_block);
-    }
-      where
-        by_value : (o : Option (List ℕ)) → IsOfKind (tasks.Read id key) (value_reply o) reply
-        by_value None = of
-        by_value (Some value) = of
+  pub next_kind : (key : List ℕ) (reply : Reply) → IsOfTask (tasks.Next id key) reply → IsOfKind (tasks.Next id key) (next_reply (state_of blocks id) key) reply
+  next_kind key reply of = subst (λ (o : Option State). IsOfKind (tasks.Next id key) (next_reply o key) reply) (sym is.of_block) (by_value (next_key is.state key))
+    where
+      by_value : (o : Option (List ℕ)) → IsOfKind (tasks.Next id key) (key_reply o) reply
+      by_value None = of
+      by_value (Some value) = of
 
-    pub next_may : (key : List ℕ) (reply : Reply) → IsOfTask (tasks.Next id key) reply
-        → (IsKeptState m.keeper root.0 is.state → reply ≡ key_reply (next_key is.state key)) → MayAnswer blocks (tasks.Next id key) reply
-    next_may key reply of same = record {
-      kind = subst (λ (o : Option State). IsOfKind (tasks.Next id key) (next_reply o key) reply) (sym is.of_block) (by_value (next_key is.state key));
-      clear = λ clear. same (is.kept clear) ∙ ap (λ (o : Option State). next_reply o key) (sym is.of_block);
-    }
-      where
-        by_value : (o : Option (List ℕ)) → IsOfKind (tasks.Next id key) (key_reply o) reply
-        by_value None = of
-        by_value (Some value) = of
+  pub next_same : (key : List ℕ) (o : Option (List ℕ)) → o ≡ next_key is.state key → key_reply o ≡ next_reply (state_of blocks id) key
+  next_same key o e = ap key_reply e ∙ ap (λ (s : Option State). next_reply s key) (sym is.of_block)
 
-    pub list_may : (prefix : List ℕ) (keys : List (List ℕ)) → (IsKeptState m.keeper root.0 is.state → keys ≡ keys_with_prefix is.state prefix)
-        → MayAnswer blocks (tasks.List id prefix) (Listed keys)
-    list_may prefix keys same = record {
-      kind = subst (λ (o : Option State). IsOfKind (tasks.List id prefix) (list_reply o prefix) (Listed keys)) (sym is.of_block) (keys, refl);
-      clear = λ clear. ap Listed (same (is.kept clear)) ∙ ap (λ (o : Option State). list_reply o prefix) (sym is.of_block);
-    }
+  pub list_kind : (prefix : List ℕ) (keys : List (List ℕ)) → IsOfKind (tasks.List id prefix) (list_reply (state_of blocks id) prefix) (Listed keys)
+  list_kind prefix keys = subst (λ (o : Option State). IsOfKind (tasks.List id prefix) (list_reply o prefix) (Listed keys)) (sym is.of_block) (keys, refl)
+
+  pub list_same : (prefix : List ℕ) (keys : List (List ℕ)) → keys ≡ keys_with_prefix is.state prefix → Listed keys ≡ list_reply (state_of blocks id) prefix
+  list_same prefix keys e = ap Listed e ∙ ap (λ (s : Option State). list_reply s prefix) (sym is.of_block)
+
+  pub root_kind : IsOfKind (tasks.Root id) (root_reply (state_of blocks id)) (Root root)
+  root_kind = subst (λ (o : Option State). IsOfKind (tasks.Root id) (root_reply o) (Root root)) (sym is.of_block) (root, refl)
+
+  pub root_same : (stands : K → Commits → Type 0) (commits : Commits) → KeepsBlocks stands m blocks commits → Clear blocks → Root root ≡ root_reply (state_of blocks id)
+  root_same stands commits keeps clear =
+      ap (λ (h : List ℕ). Root (record { 0 = h })) (is.kept commits (keeps.states clear) clear).root_is ∙ ap root_reply (sym is.of_block)

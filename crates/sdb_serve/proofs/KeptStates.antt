@@ -1,12 +1,12 @@
 -- What is kept of the states after one more block.
-use Rattle.std.proofs.Common.{◌≡◌, ℕ, Bool, true, false, cond, List, [], ◌∷◌, map, Some, None, refl, ap, subst, sym, ◌∙◌, inl, inr}
+use Rattle.std.proofs.Common.{◌≡◌, ℕ, Bool, true, false, cond, List, [], ◌∷◌, ◌++◌, map, Some, None, refl, ap, subst, sym, ◌∙◌, inl, inr}
 use Rattle.std.specs.BTreeMap.{Updates, get}
-use Rattle.std.specs.Prelude.{Contains}
+use Rattle.std.specs.Prelude.{Any, Contains}
 use Rattle.std.proofs.lemmas.Map.Text.{is_eq-slice_cmp}
 use Rattle.std.proofs.lemmas.Option.{none-some, same_Some}
 use Rattle.std.proofs.lemmas.Slice.Eq.{bytes_eq-Decides}
-use Rattle.sdb_base.specs.Content.{Counted}
-use Rattle.sdb_base.specs.MapKeeping.{kept_node}
+use Rattle.sdb_base.specs.Content.{Counted, node_under}
+use Rattle.sdb_base.specs.Keeping.{AddsNode, Commits, operations}
 use Rattle.sdb_base.specs.declared.Block.{Block}
 use Rattle.sdb_base.specs.declared.BlockId.{BlockId}
 use Rattle.sdb_base.specs.declared.node.Node.{Node}
@@ -19,8 +19,10 @@ use Rattle.trie_model.specs.Nodes.{PathNode, stored_nodes}
 use Rattle.trie_model.specs.State.{State}
 use Rattle.trie_model.specs.Trie.{trie_root}
 use Rattle.trie_read.proofs.Among.{Among, among_from, contains_from}
-use Rattle.sdb_serve.specs.inner.Blocks.{KeepsStates, id_cmp}
-use Rattle.sdb_serve.specs.inner.Kept.{AddsNodes, HasNodes, IsKept}
+use Rattle.sdb_serve.specs.inner.Blocks.{KeepsStates, commits_of, id_cmp}
+use Rattle.sdb_serve.specs.inner.Kept.{AddsAlike, HasNodes, IsKept, references_to}
+use Rattle.sdb_serve.proofs.AddedNodes.{added_by, was_added}
+use Rattle.sdb_serve.proofs.KeptNodes.{AddsNodes, adds_nodes}
 use Rattle.sdb_serve.specs.declared.blocks.BlockEntry.{BlockEntry}
 use Rattle.sdb_serve.specs.declared.blocks.BlockMap.{BlockMap}
 use Rattle.sdb_serve.proofs.KeptChanges.{LeadsTo}
@@ -70,29 +72,35 @@ module _ (older : List Block) (b : Block) (state : State) (fresh : state_of olde
 
   -- ---- which are kept
 
-  module _ (m n : BlockMap) (entry : BlockEntry) (nodes : List Node) (clear : Clear (b ∷ older)) (before : KeepsStates m older)
-      (leads : LeadsTo m.keeper state entry.root.0 nodes) (adds : AddsNodes m.keeper n.keeper nodes)
-      (found : Updates id_cmp m.blocks n.blocks b.id (Some entry)) where
-    only_such : (key : List ℕ) (c : Counted) → kept_node n.keeper key ≡ Some c → (key ≡ H c.bytes) × IsStoredNode (b ∷ older) c.bytes
-    only_such key c e = elim (adds.only key c e) [
-      | inl old ↦
-          let was = before.only key old.0 old.1 in
-          subst (λ (bytes : List ℕ). (key ≡ H bytes) × IsStoredNode (b ∷ older) bytes) (sym old.2) (was.0, still_stored old.0.bytes was.1)
+  module _ {K : Type 0} (m n : BlockMap K) (entry : BlockEntry) (commits : Commits) (nodes : List Node) (clear : Clear (b ∷ older)) (before : KeepsStates m older commits)
+      (leads : LeadsTo commits state entry.root.0 nodes) (found : Updates id_cmp m.blocks n.blocks b.id (Some entry))
+      (next_are : commits ++ references_to nodes ∷ [] ≡ commits_of (b ∷ older)) where
+    abbrev next : Commits
+    next = commits ++ references_to nodes ∷ []
+
+    adds : AddsNodes commits nodes
+    adds = adds_nodes commits nodes
+
+    only_such : (key bytes : List ℕ) → Any (AddsNode key bytes) (operations next) → (key ≡ H bytes) × IsStoredNode (b ∷ older) bytes
+    only_such key bytes a = elim (added_by commits nodes key bytes a) [
+      | inl old ↦ let was = before.only key bytes old in (was.0, still_stored bytes was.1)
       | inr put ↦
-          let from = from_hashed put.0 leads.puts (subst (λ (ns : List Node). Among put.0 ns) leads.puts_are (among_from put.0 nodes put.1)) in
+          let from = from_hashed put.0 leads.puts (subst (λ (ns : List Node). Among put.0 ns) leads.puts_are put.1) in
           let hash : H from.0.bytes ≡ key = ap (λ (o : Node). o.hash.0) from.2 ∙ put.2 in
-          let same : from.0.bytes ≡ c.bytes = ap (λ (o : Node). o.bytes) from.2 ∙ put.3 in
-          subst (λ (bytes : List ℕ). (key ≡ H bytes) × IsStoredNode (b ∷ older) bytes) same (sym hash, own_stored from.0 (leads.stored from.0 from.1))
+          let same : from.0.bytes ≡ bytes = ap (λ (o : Node). o.bytes) from.2 ∙ put.3 in
+          subst (λ (bs : List ℕ). (key ≡ H bs) × IsStoredNode (b ∷ older) bs) same (sym hash, own_stored from.0 (leads.stored from.0 from.1))
     ]
 
     -- what is under the hash of a stored node's bytes is these bytes
-    kept_there : (bytes : List ℕ) (c : Counted) → IsStoredNode (b ∷ older) bytes → kept_node n.keeper (H bytes) ≡ Some c → IsKept n.keeper bytes
-    kept_there bytes c stored e = let such = only_such (H bytes) c e in (c, e, clear c.bytes bytes such.1 stored (sym such.0))
+    kept_there : (bytes : List ℕ) (c : Counted) → IsStoredNode (b ∷ older) bytes → node_under (operations next) (H bytes) ≡ Some c → IsKept next bytes
+    kept_there bytes c stored e =
+        let such = only_such (H bytes) c.bytes (was_added (H bytes) (operations next) c e) in
+        (c, e, clear c.bytes bytes such.1 stored (sym such.0))
 
-    still_kept : (bytes : List ℕ) → IsKept m.keeper bytes → IsKept n.keeper bytes
+    still_kept : (bytes : List ℕ) → IsKept commits bytes → IsKept next bytes
     still_kept bytes k = let s = adds.still (H bytes) k.0 k.1 in (s.0, s.1, s.2 ∙ k.2)
 
-    own_kept : (o : PathNode) → Among o (stored_nodes state) → IsKept n.keeper o.bytes
+    own_kept : (o : PathNode) → Among o (stored_nodes state) → IsKept next o.bytes
     own_kept o a = elim (leads.covers o a) [
       | inl old ↦ still_kept o.bytes old
       | inr put ↦
@@ -101,13 +109,13 @@ module _ (older : List Block) (b : Block) (state : State) (fresh : state_of olde
           kept_there o.bytes c.0 (own_stored o a) c.1
     ]
 
-    has_nodes : (id : BlockId) (s : State) → state_of (b ∷ older) id ≡ Some s → HasNodes n.keeper s
+    has_nodes : (id : BlockId) (s : State) → state_of (b ∷ older) id ≡ Some s → HasNodes next s
     has_nodes id s e = by_test (same_id b.id id) refl
       where
-        by_test : (t : Bool) → same_id b.id id ≡ t → HasNodes n.keeper s
+        by_test : (t : Bool) → same_id b.id id ≡ t → HasNodes next s
         by_test true is =
             let same : state ≡ s = same_Some state s (sym (states id ∙ ap (λ t. cond t (Some state) (state_of older id)) is) ∙ e) in
-            subst (λ (s : State). HasNodes n.keeper s) same (λ o c. own_kept o (among_from o (stored_nodes state) c))
+            subst (λ (s : State). HasNodes next s) same (λ o c. own_kept o (among_from o (stored_nodes state) c))
         by_test false is =
             let old : state_of older id ≡ Some s = sym (states id ∙ ap (λ t. cond t (Some state) (state_of older id)) is) ∙ e in
             λ o c. still_kept o.bytes (before.nodes id s old o c)
@@ -127,5 +135,12 @@ module _ (older : List Block) (b : Block) (state : State) (fresh : state_of olde
             before.roots id k s (sym (entry_at ∙ ap (λ t. cond t (Some entry) (get id_cmp m.blocks id)) is) ∙ at)
             (sym (states id ∙ ap (λ t. cond t (Some state) (state_of older id)) is) ∙ e)
 
-    pub keeps_states : KeepsStates n (b ∷ older)
-    keeps_states = record { roots = roots_are; nodes = has_nodes; only = only_such }
+    pub keeps_states : KeepsStates n (b ∷ older) next
+    keeps_states = record { roots = roots_are; commits_are = next_are; nodes = has_nodes; only = only_such }
+
+-- all references under a key carry the same bytes, where no two stored nodes have one hash
+pub alike : {K : Type 0} (m : BlockMap K) (blocks : List Block) (commits : Commits) → Clear blocks → KeepsStates m blocks commits → (key : List ℕ) → AddsAlike commits key
+alike m blocks commits clear kept key x y p q =
+    let one = kept.only key x p in
+    let two = kept.only key y q in
+    clear x y one.1 two.1 (sym one.0 ∙ two.0)

@@ -1,4 +1,5 @@
 pub mod Answering
+pub mod StageSteps
 pub mod Imports
 pub mod Keeping
 pub mod Outputs
@@ -6,6 +7,7 @@ pub mod Lines
 pub mod Stopping
 pub mod ClearLines
 pub mod ClearRuns
+pub mod InOrder
 pub mod Running
 pub mod Chunks
 pub mod Halting
@@ -15,9 +17,13 @@ pub mod Words
 pub mod Unique
 pub mod NodeFetches
 pub mod NodeFilters
+pub mod AddedNodes
 pub mod KeptNodes
+pub mod KeeperFaults
 pub mod KeptEntries
 pub mod KeptChanges
 pub mod KeptStates
 pub mod KeptReads
 pub mod KeptBlocks
+pub mod Accepting
+pub mod JobReplies

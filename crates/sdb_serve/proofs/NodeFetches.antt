@@ -2,7 +2,7 @@
 use Rattle.std.proofs.Common.{◌≡◌, ℕ, List, [], ◌∷◌, Option, Some, None, ap, sym, ◌∙◌}
 use Rattle.std.specs.List.{AllByRecursion}
 use Rattle.std.proofs.lemmas.Option.{none-some, same_Some}
-use Rattle.sdb_base.specs.declared.map_keeper.MapKeeper.{MapKeeper}
+use Rattle.sdb_base.specs.Keeping.{Commits}
 use Rattle.sdb_base.specs.declared.node.NodeHash.{NodeHash}
 use Rattle.std.specs.Option.{option_map}
 use Rattle.sdb_blake2.specs.Blake2b.{H}
@@ -17,39 +17,39 @@ use Rattle.trie_read.specs.Walks.{IsWalking, walk_wanted}
 use Rattle.trie_read.specs.declared.next_job.NextJob.{NextJob}
 use Rattle.trie_read.specs.declared.read_job.ReadJob.{ReadJob}
 use Rattle.trie_read.specs.declared.walk_job.WalkJob.{WalkJob}
-use Rattle.sdb_serve.specs.inner.Kept.{IsKept, IsSameKeeper}
+use Rattle.sdb_serve.specs.inner.Kept.{IsKept}
 
 -- so far has a job come: these nodes are still to be fed, and each is kept
-pub record IsFetching (keeper : MapKeeper) (At : List PathNode → Type 0) : Type 0 where
+pub record IsFetching (commits : Commits) (At : List PathNode → Type 0) : Type 0 where
   pub todo : List PathNode
   pub at : At todo
-  pub kept : AllByRecursion (λ (n : PathNode). IsKept keeper n.bytes) todo
+  pub kept : AllByRecursion (λ (n : PathNode). IsKept commits n.bytes) todo
 
 -- the node of this hash is to be fed, and then others
-pub record IsNext (keeper : MapKeeper) (At : List PathNode → Type 0) (hash : List ℕ) : Type 0 where
+pub record IsNext (commits : Commits) (At : List PathNode → Type 0) (hash : List ℕ) : Type 0 where
   pub node : PathNode
   pub todo : List PathNode
   pub at : At (node ∷ todo)
   pub is_hash : hash ≡ H node.bytes
-  pub kept : IsKept keeper node.bytes
-  pub others : AllByRecursion (λ (n : PathNode). IsKept keeper n.bytes) todo
+  pub kept : IsKept commits node.bytes
+  pub others : AllByRecursion (λ (n : PathNode). IsKept commits n.bytes) todo
 
 -- the job wants the first node that is to be fed
 abbrev pub WantsFirst : Option (List ℕ) → (List PathNode → Type 0) → Type 0
 WantsFirst wanted At = (todo : List PathNode) → At todo → wanted ≡ first_hash todo
 
-module _ (keeper : MapKeeper) (At : List PathNode → Type 0) (wanted : Option (List ℕ)) (wants : WantsFirst wanted At) where
-  pub all_fed : None ≡ wanted → IsFetching keeper At → At []
+module _ (commits : Commits) (At : List PathNode → Type 0) (wanted : Option (List ℕ)) (wants : WantsFirst wanted At) where
+  pub all_fed : None ≡ wanted → IsFetching commits At → At []
   all_fed e f = by_todo f.todo f.at
     where
       by_todo : (todo : List PathNode) → At todo → At []
       by_todo [] at = at
       by_todo (n ∷ todo) at = absurd (none-some (H n.bytes) (e ∙ wants (n ∷ todo) at))
 
-  pub next_of : (hash : List ℕ) → Some hash ≡ wanted → IsFetching keeper At → IsNext keeper At hash
+  pub next_of : (hash : List ℕ) → Some hash ≡ wanted → IsFetching commits At → IsNext commits At hash
   next_of hash e f = by_todo f.todo f.at f.kept
     where
-      by_todo : (todo : List PathNode) → At todo → AllByRecursion (λ (n : PathNode). IsKept keeper n.bytes) todo → IsNext keeper At hash
+      by_todo : (todo : List PathNode) → At todo → AllByRecursion (λ (n : PathNode). IsKept commits n.bytes) todo → IsNext commits At hash
       by_todo [] at kept = absurd (none-some hash (sym (e ∙ wants [] at)))
       by_todo (n ∷ todo) at kept = record {
         node = n;
@@ -59,12 +59,6 @@ module _ (keeper : MapKeeper) (At : List PathNode → Type 0) (wanted : Option (
         kept = kept.0;
         others = kept.1;
       }
-
-pub kept_same : (old new : MapKeeper) (bytes : List ℕ) → IsSameKeeper old new → IsKept old bytes → IsKept new bytes
-kept_same old new bytes same kept = (kept.0, same.nodes (H bytes) ∙ kept.1, kept.2)
-
-pub same_on : (a b c : MapKeeper) → IsSameKeeper a b → IsSameKeeper b c → IsSameKeeper a c
-same_on a b c p q = record { nodes = λ key. q.nodes key ∙ p.nodes key; reliable = q.reliable }
 
 -- ---- what each job wants
 

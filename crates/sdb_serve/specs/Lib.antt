@@ -1,4 +1,5 @@
 pub mod Jobs
+pub mod StageLines
 pub mod Replies
 pub mod Session
 pub mod Playing

@@ -1,6 +1,8 @@
 -- What the lines of a script do, one after another.
 use Rattle.std.specs.Prelude.{ℕ, ◌+◌, ◌^◌, ◌==◌, not, nat_lt, Bool, true, false, List, [], ◌∷◌, ◌++◌, length, if◌then◌else◌, Option, Some, None, option_and_then}
 use Rattle.std.specs.Option.{option_map}
+use Rattle.sdb_base.specs.Pipeline.{Pipeline, with_commit}
+use Rattle.sdb_base.specs.Uncrowded.{uncrowded}
 use Rattle.sdb_base.specs.declared.Block.{Block}
 use Rattle.sdb_model.specs.Blocks.{state_of}
 use Rattle.sdb_model.specs.declared.Refusal.TheVariants.{HasGenesis, NoGenesis}
@@ -15,6 +17,7 @@ use Rattle.sdb_script.specs.declared.Line.TheVariants as lines
 use Rattle.sdb_script.specs.declared.LineReply.{LineReply}
 use Rattle.sdb_script.specs.declared.LineReply.TheVariants as replies
 use Rattle.sdb_serve.specs.Jobs.{after_import, import_reply, list_reply, next_reply, read_reply, root_reply}
+use Rattle.sdb_serve.specs.StageLines.{after_stage, pipeline_after, stage_reply}
 
 -- what is known after some lines
 pub record SessionState : Type 0 where
@@ -26,9 +29,15 @@ pub record SessionState : Type 0 where
   pub blocks : List Block
   -- the bytes of the lines so far, line feeds included
   pub read : ℕ
+  -- how far the commits have come; genesis and each accepted import are one
+  pub pipeline : Pipeline
+
+-- no commit was accepted
+abbrev pub no_commits : Pipeline
+no_commits = uncrowded (record { accepted = 0; logged = 0; flushed = 0; enacted = 0; cleaned = 0 })
 
 abbrev pub first_session : SessionState
-first_session = record { begun = false; window = 0; blocks = []; read = 0 }
+first_session = record { begun = false; window = 0; blocks = []; read = 0; pipeline = no_commits }
 
 -- one job: its reply, and the blocks after it
 abbrev pub answer_job : List Block → Task → Reply × List Block
@@ -39,18 +48,22 @@ answer_job blocks (Root id) = (root_reply (state_of blocks id), blocks)
 answer_job blocks (Import b) = let reply = import_reply blocks b in (reply, after_import blocks b reply)
 
 -- A line's reply, and what is known after it; none where the line may not be here: the first line that is neither
--- empty nor a comment is `new`, and no later one is. A job before genesis is refused, and so is a second genesis.
+-- empty nor a comment is `new`, and no later one is. A job before genesis is refused, and so is a second genesis; a stage line
+-- needs no genesis.
 unfoldable pub answer : SessionState → Line → Option (Option LineReply × SessionState)
 answer s lines.Blank = Some (None, s)
 answer s (lines.New base) = if s.begun then None else Some (Some replies.New, record s { begun = true })
 answer s (lines.Genesis window b) =
     if not s.begun then None
-    else if length s.blocks == 0 then Some (Some replies.Genesis, record s { window = window; blocks = b ∷ [] })
+    else if length s.blocks == 0 then Some (Some replies.Genesis, record s { window = window; blocks = b ∷ []; pipeline = with_commit s.pipeline })
     else Some (Some (replies.Refused HasGenesis), s)
 answer s (lines.Job task) =
     if not s.begun then None
     else if length s.blocks == 0 then Some (Some (replies.Job (Refused NoGenesis)), s)
-    else let a = answer_job s.blocks task in Some (Some (replies.Job a.0), record s { blocks = a.1 })
+    else let a = answer_job s.blocks task in Some (Some (replies.Job a.0), record s { blocks = a.1; pipeline = pipeline_after a.0 s.pipeline })
+answer s (lines.Stage stage) =
+    if not s.begun then None
+    else Some (Some (replies.Stage (stage_reply s.pipeline stage)), record s { pipeline = after_stage s.pipeline stage })
 
 -- the line of a reply, one piece for the sink; no reply has none
 abbrev pub reply_lines : Option LineReply → List (List ℕ)

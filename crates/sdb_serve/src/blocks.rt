@@ -1,16 +1,27 @@
-ghost use Rattle.std.specs.Prelude.{◌≡◌, ◌↔◌, List, [], ◌∷◌, slice_index, IsTrue, IfErr, IfOk, OnOk, OnErr, Some};
+ghost use Rattle.std.specs.Prelude.{◌≡◌, ◌↔◌, ◌⊎◌, ◌≤◌, ◌<◌, ◌++◌, List, [], ◌∷◌, All, length, slice_index, vec_len, vec_capacity, IsTrue, IfErr, IfOk, OnOk, OnErr, Some, None};
+ghost use Rattle.sdb_io.specs.Faults.{CountsFault};
+ghost use Rattle.sdb_base.specs.Keeping.{Commits, IsCause, disk_failed};
+ghost use Rattle.sdb_base.specs.Pipeline.{with_commit};
 ghost use Rattle.sdb_base.specs.declared.Block.{Block};
+ghost use Rattle.sdb_base.specs.declared.numbers.KeeperCall.TheVariants as calls;
+ghost use Rattle.sdb_base.specs.declared.numbers.StageAnswer.TheVariants as answers;
 ghost use Rattle.sdb_model.specs.Clear.{Clear};
 ghost use Rattle.sdb_model.specs.declared.task.Task.TheVariants as tasks;
 ghost use Rattle.sdb_script.specs.LineTexts.{IsBlock};
-ghost use Rattle.sdb_serve.specs.Jobs.{after_import};
-ghost use Rattle.sdb_serve.specs.Replies.{MayAnswer};
+ghost use Rattle.sdb_serve.specs.Jobs.{after_import, import_reply};
+ghost use Rattle.sdb_serve.specs.Replies.{IsOfKind};
+ghost use Rattle.sdb_serve.specs.Session.{answer_job};
+ghost use Rattle.sdb_serve.specs.StageLines.{pipeline_after};
+ghost use Rattle.sdb_serve.specs.inner.Kept.{ClearsAlike, IsKeeperCause, MeetsNoBadNode, keeper_disk_failed, references_to};
 
 use crate::nodes::{NodeFault, changed, created, keep, key_above, keys_under, value_under};
-use sdb_base::{Block, BlockId, Bytes, MapKeeper, NodeHash, OutOfMemory};
+use sdb_base::{
+    Block, BlockId, Bytes, Grown, KeepFault, Keeper, Logged, NodeHash, OutOfMemory, Stages,
+};
 use sdb_model::{Refusal, Reply};
 use std::alloc::Global;
 use std::collections::BTreeMap;
+use trie_change::Delta;
 
 // at most so many blocks have one number
 const MOST_SIBLINGS: u32 = 32;
@@ -22,32 +33,49 @@ pub(crate) struct BlockEntry {
     root: NodeHash,
 }
 
-/// The accepted blocks, each with its number and its root, and the stored nodes of their states.
+/// The accepted blocks, each with its number and its root, over a keeper of the stored nodes of their states.
 #[derive(Drop)]
-pub(crate) struct BlockMap {
+pub(crate) struct BlockMap<K> {
     alloc: Global,
     blocks: BTreeMap<BlockId, BlockEntry>,
     // how many blocks have each number
     levels: Vec<u32>,
-    keeper: MapKeeper,
+    keeper: K,
 }
 
-impl BlockMap {
+impl<K: Keeper> BlockMap<K> {
     ghost use Rattle.std.specs.BTreeMap.{IsUnchanged, Updates, get};
     ghost use Rattle.std.specs.Option.{option_map};
     ghost use Rattle.sdb_serve.specs.declared.blocks.BlockEntry.{BlockEntry};
-    ghost use Rattle.sdb_serve.specs.inner.Blocks.{RepresentsBlocks, id_cmp, with_level};
+    ghost use Rattle.sdb_serve.specs.inner.Blocks.{IsNextHistory, IsOneMore, IsSameMap, KeepsBlocks, RepresentsBlocks, id_cmp, with_level};
 
-    /// No blocks.
-    pub(crate) fn new(alloc: Global) -> BlockMap
-        ensures { RepresentsBlocks result [] }
+    /// No blocks, over a keeper without commits.
+    pub(crate) fn new(alloc: Global, keeper: K) -> BlockMap<K>
+        ensures represents { RepresentsBlocks result [] }
+        ensures keeps { K.stands keeper [] → KeepsBlocks K.stands result [] [] }
+        ensures keeper { result.keeper ≡ keeper }
     {
         BlockMap {
             alloc,
             blocks: BTreeMap::new(alloc),
             levels: Vec::new(alloc),
-            keeper: MapKeeper::new(alloc),
+            keeper,
         }
+    }
+
+    /// The keeper.
+    pub(crate) fn keeper(&self) -> &K
+        ensures { result.now ≡ self.now.keeper }
+    {
+        &self.keeper
+    }
+
+    /// The keeper, without the blocks.
+    pub(crate) fn into_keeper(self) -> K
+        ensures { result ≡ self.keeper }
+    {
+        let BlockMap { keeper, .. } = self;
+        keeper
     }
 
     /// Whether no block was accepted.
@@ -57,14 +85,28 @@ impl BlockMap {
         self.levels.is_empty()
     }
 
-    /// Accepts genesis, where no block was accepted. After an `Err` the blocks aren't used again.
-    pub(crate) fn genesis(&mut self, block: Block) -> Result<(), OutOfMemory>
+    /// Accepts genesis, where no block was accepted. An `Err` changes neither the blocks nor what is kept.
+    pub(crate) fn genesis(&mut self, block: Block) -> Result<(), NodeFault>
         requires { IsBlock block }
-        ensures { RepresentsBlocks self.old [] → OnOk result (RepresentsBlocks self.new (block ∷ [])) }
+        ensures represents { RepresentsBlocks self.old [] → OnOk result (RepresentsBlocks self.new (block ∷ [])) }
+        ensures keeps { (commits : Commits) → KeepsBlocks K.stands self.old [] commits
+            → OnOk result ((next : Commits) × IsOneMore commits next × K.later self.old.keeper commits self.new.keeper next
+            × KeepsBlocks K.stands self.new (block ∷ []) next) }
+        ensures refused { RepresentsBlocks self.old [] → OnErr result (RepresentsBlocks self.new []) }
+        ensures refused_keeps { (commits : Commits) → KeepsBlocks K.stands self.old [] commits
+            → OnErr result (KeepsBlocks K.stands self.new [] commits) }
+        ensures refused_later { (commits : Commits) → K.stands self.old.keeper commits
+            → OnErr result (K.later self.old.keeper commits self.new.keeper commits) }
+        ensures after { K.comes_after self.old.keeper self.new.keeper }
+        ensures pipeline { OnOk result (K.pipeline self.new.keeper ≡ with_commit (K.pipeline self.old.keeper)) }
+        ensures unchanged { OnErr result (K.pipeline self.new.keeper ≡ K.pipeline self.old.keeper) }
+        ensures counted { CountsFault (keeper_disk_failed result) (K.fault_count self.old.keeper) (K.fault_count self.new.keeper) }
+        ensures cause { IfErr result (IsKeeperCause (K.due self.new.keeper calls.Commit)) }
+        ensures sound { IfErr result MeetsNoBadNode }
     {
         let delta = created(self.alloc, block.changes)?;
-        let root = keep(self.alloc, &mut self.keeper, delta)?;
-        self.add_entry(block.id, BlockEntry { number: 0, root }, 1)
+        self.accept(block.id, 0, 1, delta)?;
+        Ok(())
     }
 
     /// The root of a block.
@@ -79,9 +121,20 @@ impl BlockMap {
 
     /// The reply to a read of a key in a block's state.
     pub(crate) fn read(&mut self, id: BlockId, key: Bytes) -> Result<Reply, NodeFault>
-        ensures may { (blocks : List Block) → RepresentsBlocks self.old blocks → IfOk result (MayAnswer blocks (tasks.Read id key)) }
-        ensures after { (blocks : List Block) → RepresentsBlocks self.old blocks → OnOk result (RepresentsBlocks self.new blocks) }
-        ensures sound { (blocks : List Block) → RepresentsBlocks self.old blocks → Clear blocks → IfErr result (λ e. e ≡ NodeFault.OutOfMemory) }
+        ensures kind { (blocks : List Block) → RepresentsBlocks self.old blocks
+            → IfOk result (IsOfKind (tasks.Read id key) (answer_job blocks (tasks.Read id key)).0) }
+        ensures answer { (blocks : List Block) (commits : Commits) → KeepsBlocks K.stands self.old blocks commits → ClearsAlike K.clear
+            → Clear blocks → IfOk result (λ reply. reply ≡ (answer_job blocks (tasks.Read id key)).0) }
+        ensures sound { (blocks : List Block) (commits : Commits) → KeepsBlocks K.stands self.old blocks commits → ClearsAlike K.clear
+            → Clear blocks → IfErr result MeetsNoBadNode }
+        ensures represents { (blocks : List Block) → RepresentsBlocks self.old blocks → RepresentsBlocks self.new blocks }
+        ensures keeps { (blocks : List Block) (commits : Commits) → KeepsBlocks K.stands self.old blocks commits
+            → KeepsBlocks K.stands self.new blocks commits }
+        ensures later { (commits : Commits) → K.stands self.old.keeper commits → K.later self.old.keeper commits self.new.keeper commits }
+        ensures after { K.comes_after self.old.keeper self.new.keeper }
+        ensures pipeline { K.pipeline self.new.keeper ≡ K.pipeline self.old.keeper }
+        ensures counted { CountsFault (keeper_disk_failed result) (K.fault_count self.old.keeper) (K.fault_count self.new.keeper) }
+        ensures cause { IfErr result (IsKeeperCause (K.due self.new.keeper calls.Node)) }
     {
         let Some(root) = self.root_of(&id) else {
             return Ok(Reply::Refused(Refusal::UnknownBlock));
@@ -94,9 +147,20 @@ impl BlockMap {
 
     /// The reply to a search for the least key above a key in a block's state.
     pub(crate) fn next(&mut self, id: BlockId, key: Bytes) -> Result<Reply, NodeFault>
-        ensures may { (blocks : List Block) → RepresentsBlocks self.old blocks → IfOk result (MayAnswer blocks (tasks.Next id key)) }
-        ensures after { (blocks : List Block) → RepresentsBlocks self.old blocks → OnOk result (RepresentsBlocks self.new blocks) }
-        ensures sound { (blocks : List Block) → RepresentsBlocks self.old blocks → Clear blocks → IfErr result (λ e. e ≡ NodeFault.OutOfMemory) }
+        ensures kind { (blocks : List Block) → RepresentsBlocks self.old blocks
+            → IfOk result (IsOfKind (tasks.Next id key) (answer_job blocks (tasks.Next id key)).0) }
+        ensures answer { (blocks : List Block) (commits : Commits) → KeepsBlocks K.stands self.old blocks commits → ClearsAlike K.clear
+            → Clear blocks → IfOk result (λ reply. reply ≡ (answer_job blocks (tasks.Next id key)).0) }
+        ensures sound { (blocks : List Block) (commits : Commits) → KeepsBlocks K.stands self.old blocks commits → ClearsAlike K.clear
+            → Clear blocks → IfErr result MeetsNoBadNode }
+        ensures represents { (blocks : List Block) → RepresentsBlocks self.old blocks → RepresentsBlocks self.new blocks }
+        ensures keeps { (blocks : List Block) (commits : Commits) → KeepsBlocks K.stands self.old blocks commits
+            → KeepsBlocks K.stands self.new blocks commits }
+        ensures later { (commits : Commits) → K.stands self.old.keeper commits → K.later self.old.keeper commits self.new.keeper commits }
+        ensures after { K.comes_after self.old.keeper self.new.keeper }
+        ensures pipeline { K.pipeline self.new.keeper ≡ K.pipeline self.old.keeper }
+        ensures counted { CountsFault (keeper_disk_failed result) (K.fault_count self.old.keeper) (K.fault_count self.new.keeper) }
+        ensures cause { IfErr result (IsKeeperCause (K.due self.new.keeper calls.Node)) }
     {
         let Some(root) = self.root_of(&id) else {
             return Ok(Reply::Refused(Refusal::UnknownBlock));
@@ -109,9 +173,20 @@ impl BlockMap {
 
     /// The reply that lists the keys with a prefix in a block's state.
     pub(crate) fn list(&mut self, id: BlockId, prefix: Bytes) -> Result<Reply, NodeFault>
-        ensures may { (blocks : List Block) → RepresentsBlocks self.old blocks → IfOk result (MayAnswer blocks (tasks.List id prefix)) }
-        ensures after { (blocks : List Block) → RepresentsBlocks self.old blocks → OnOk result (RepresentsBlocks self.new blocks) }
-        ensures sound { (blocks : List Block) → RepresentsBlocks self.old blocks → Clear blocks → IfErr result (λ e. e ≡ NodeFault.OutOfMemory) }
+        ensures kind { (blocks : List Block) → RepresentsBlocks self.old blocks
+            → IfOk result (IsOfKind (tasks.List id prefix) (answer_job blocks (tasks.List id prefix)).0) }
+        ensures answer { (blocks : List Block) (commits : Commits) → KeepsBlocks K.stands self.old blocks commits → ClearsAlike K.clear
+            → Clear blocks → IfOk result (λ reply. reply ≡ (answer_job blocks (tasks.List id prefix)).0) }
+        ensures sound { (blocks : List Block) (commits : Commits) → KeepsBlocks K.stands self.old blocks commits → ClearsAlike K.clear
+            → Clear blocks → IfErr result MeetsNoBadNode }
+        ensures represents { (blocks : List Block) → RepresentsBlocks self.old blocks → RepresentsBlocks self.new blocks }
+        ensures keeps { (blocks : List Block) (commits : Commits) → KeepsBlocks K.stands self.old blocks commits
+            → KeepsBlocks K.stands self.new blocks commits }
+        ensures later { (commits : Commits) → K.stands self.old.keeper commits → K.later self.old.keeper commits self.new.keeper commits }
+        ensures after { K.comes_after self.old.keeper self.new.keeper }
+        ensures pipeline { K.pipeline self.new.keeper ≡ K.pipeline self.old.keeper }
+        ensures counted { CountsFault (keeper_disk_failed result) (K.fault_count self.old.keeper) (K.fault_count self.new.keeper) }
+        ensures cause { IfErr result (IsKeeperCause (K.due self.new.keeper calls.Node)) }
     {
         match self.root_of(&id) {
             Some(root) => Ok(Reply::Listed(keys_under(
@@ -126,7 +201,10 @@ impl BlockMap {
 
     /// The reply that is the root of a block's state.
     pub(crate) fn root(&self, id: &BlockId) -> Reply
-        ensures { (blocks : List Block) → RepresentsBlocks self.now blocks → MayAnswer blocks (tasks.Root id.now) result }
+        ensures kind { (blocks : List Block) → RepresentsBlocks self.now blocks
+            → IsOfKind (tasks.Root id.now) (answer_job blocks (tasks.Root id.now)).0 result }
+        ensures answer { (blocks : List Block) (commits : Commits) → KeepsBlocks K.stands self.now blocks commits
+            → Clear blocks → result ≡ (answer_job blocks (tasks.Root id.now)).0 }
     {
         match self.root_of(id) {
             Some(root) => Reply::Root(root),
@@ -134,14 +212,28 @@ impl BlockMap {
         }
     }
 
-    /// The reply to an import of a block, which is then accepted unless it is refused. After an `Err` the blocks aren't used
-    /// again.
+    /// The reply to an import of a block, which is then accepted unless it is refused. An `Err` changes neither the blocks nor
+    /// what is kept.
     pub(crate) fn import(&mut self, block: Block) -> Result<Reply, NodeFault>
         requires { IsBlock block }
-        ensures may { (blocks : List Block) → RepresentsBlocks self.old blocks → IfOk result (MayAnswer blocks (tasks.Import block)) }
-        ensures after { (blocks : List Block) → RepresentsBlocks self.old blocks
+        ensures answer { (blocks : List Block) → RepresentsBlocks self.old blocks → IfOk result (λ reply. reply ≡ import_reply blocks block) }
+        ensures represents { (blocks : List Block) → RepresentsBlocks self.old blocks
             → IfOk result (λ reply. RepresentsBlocks self.new (after_import blocks block reply)) }
-        ensures sound { (blocks : List Block) → RepresentsBlocks self.old blocks → Clear blocks → IfErr result (λ e. e ≡ NodeFault.OutOfMemory) }
+        ensures keeps { (blocks : List Block) (commits : Commits) → KeepsBlocks K.stands self.old blocks commits → ClearsAlike K.clear
+            → IfOk result (λ reply. (next : Commits) × IsNextHistory reply commits next × K.later self.old.keeper commits self.new.keeper next
+            × KeepsBlocks K.stands self.new (after_import blocks block reply) next) }
+        ensures refused { (blocks : List Block) → RepresentsBlocks self.old blocks → OnErr result (RepresentsBlocks self.new blocks) }
+        ensures refused_keeps { (blocks : List Block) (commits : Commits) → KeepsBlocks K.stands self.old blocks commits
+            → OnErr result (KeepsBlocks K.stands self.new blocks commits) }
+        ensures refused_later { (commits : Commits) → K.stands self.old.keeper commits
+            → OnErr result (K.later self.old.keeper commits self.new.keeper commits) }
+        ensures sound { (blocks : List Block) (commits : Commits) → KeepsBlocks K.stands self.old blocks commits → ClearsAlike K.clear
+            → Clear blocks → IfErr result MeetsNoBadNode }
+        ensures after { K.comes_after self.old.keeper self.new.keeper }
+        ensures pipeline { IfOk result (λ reply. K.pipeline self.new.keeper ≡ pipeline_after reply (K.pipeline self.old.keeper)) }
+        ensures unchanged { OnErr result (K.pipeline self.new.keeper ≡ K.pipeline self.old.keeper) }
+        ensures counted { CountsFault (keeper_disk_failed result) (K.fault_count self.old.keeper) (K.fault_count self.new.keeper) }
+        ensures cause { IfErr result (IsKeeperCause (λ fault. K.due self.new.keeper calls.Node fault ⊎ K.due self.new.keeper calls.Commit fault)) }
     {
         let Some(parent) = self.blocks.get(&block.parent) else {
             return Ok(Reply::Refused(Refusal::UnknownParent));
@@ -157,8 +249,7 @@ impl BlockMap {
             return Ok(Reply::Refused(Refusal::TooManySiblings { number }));
         }
         let delta = changed(self.alloc, &mut self.keeper, root, block.changes)?;
-        let root = keep(self.alloc, &mut self.keeper, delta)?;
-        self.add_entry(block.id, BlockEntry { number, root }, siblings + 1)?;
+        self.accept(block.id, number, siblings + 1, delta)?;
         Ok(Reply::Imported(number))
     }
 
@@ -174,23 +265,167 @@ impl BlockMap {
         }
     }
 
-    /// Adds a block's entry under its id, and sets how many blocks then have its number. An `Err` changes
-    /// nothing.
-    fn add_entry(&mut self, id: BlockId, entry: BlockEntry, count: u32) -> Result<(), OutOfMemory>
-        ensures added { OnOk result (Updates id_cmp self.old.blocks self.new.blocks id (Some entry)) }
-        ensures levels { OnOk result (self.new.levels.items ≡ with_level self.old.levels.items entry.number count) }
-        ensures keeper { self.new.keeper ≡ self.old.keeper }
-        ensures err { OnErr result (IsUnchanged self.old.blocks self.new.blocks
-            × (self.new.levels.items ≡ self.old.levels.items)) }
+    /// Commits the nodes that a block's changes put and adds the block's entry, so that so many blocks have its number. An `Err`
+    /// changes neither the blocks, where none had the id, nor what is kept.
+    fn accept(
+        &mut self,
+        id: BlockId,
+        number: u64,
+        count: u32,
+        delta: Delta,
+    ) -> Result<(), NodeFault>
+        requires { All (λ n. length n.bytes ≤ 4200000) delta.puts }
+        ensures added { OnOk result (Updates id_cmp self.old.blocks self.new.blocks id (Some (record { number = number; root = delta.root }))) }
+        ensures levels { OnOk result (self.new.levels.items ≡ with_level self.old.levels.items number count) }
+        ensures same { get id_cmp self.old.blocks id ≡ None → OnErr result (IsSameMap self.old self.new) }
+        ensures kept { (commits : Commits) → K.stands self.old.keeper commits
+            → OnOk result (K.stands self.new.keeper (commits ++ references_to delta.puts ∷ [])) }
+        ensures kept_later { (commits : Commits) → K.stands self.old.keeper commits
+            → OnOk result (K.later self.old.keeper commits self.new.keeper (commits ++ references_to delta.puts ∷ [])) }
+        ensures refused { (commits : Commits) → K.stands self.old.keeper commits → OnErr result (K.stands self.new.keeper commits) }
+        ensures refused_later { (commits : Commits) → K.stands self.old.keeper commits
+            → OnErr result (K.later self.old.keeper commits self.new.keeper commits) }
+        ensures after { K.comes_after self.old.keeper self.new.keeper }
+        ensures pipeline { OnOk result (K.pipeline self.new.keeper ≡ with_commit (K.pipeline self.old.keeper)) }
+        ensures unchanged { OnErr result (K.pipeline self.new.keeper ≡ K.pipeline self.old.keeper) }
+        ensures counted { CountsFault (keeper_disk_failed result) (K.fault_count self.old.keeper) (K.fault_count self.new.keeper) }
+        ensures cause { IfErr result (IsKeeperCause (K.due self.new.keeper calls.Commit)) }
+        ensures found { IfErr result MeetsNoBadNode }
     {
-        let level = entry.number as usize;
+        let Delta { root, puts, .. } = delta;
+        self.make_room(id, BlockEntry { number, root })?;
+        match keep(self.alloc, &mut self.keeper, puts) {
+            Ok(()) => {
+                self.count_level(number, count);
+                Ok(())
+            }
+            Err(fault) => {
+                self.blocks.remove(&id);
+                Err(fault)
+            }
+        }
+    }
+
+    /// Adds a block's entry under its id, and makes room for one level more. An `Err` changes nothing.
+    fn make_room(&mut self, id: BlockId, entry: BlockEntry) -> Result<(), OutOfMemory>
+        ensures added { OnOk result (Updates id_cmp self.old.blocks self.new.blocks id (Some entry)) }
+        ensures room { OnOk result (vec_len self.new.levels < vec_capacity self.new.levels) }
+        ensures levels { self.new.levels.items ≡ self.old.levels.items }
+        ensures keeper { self.new.keeper ≡ self.old.keeper }
+        ensures err { OnErr result (IsUnchanged self.old.blocks self.new.blocks) }
+    {
         self.levels.reserve(1)?;
         self.blocks.insert(id, entry)?;
+        Ok(())
+    }
+
+    /// Sets how many blocks have a number, which has a level or is the next.
+    fn count_level(&mut self, number: u64, count: u32)
+        requires { vec_len self.old.levels < vec_capacity self.old.levels }
+        ensures levels { self.new.levels.items ≡ with_level self.old.levels.items number count }
+        ensures blocks { self.new.blocks ≡ self.old.blocks }
+        ensures keeper { self.new.keeper ≡ self.old.keeper }
+    {
+        let level = number as usize;
         if level < self.levels.len() {
             self.levels[level] = count;
         } else {
-            self.levels.push(count)?;
+            self.levels.push_reserved(count);
         }
-        Ok(())
+    }
+}
+
+impl<K: Stages> BlockMap<K> {
+    ghost use Rattle.sdb_serve.specs.inner.Blocks.{KeepsBlocks, RepresentsBlocks};
+
+    /// Logs the oldest commit that isn't logged, or makes room for it.
+    pub(crate) fn log(&mut self) -> Result<Logged, KeepFault>
+        ensures steps { IfOk result (λ r. K.steps self.old.keeper (answers.Logged r) self.new.keeper) }
+        ensures unchanged { OnErr result (K.pipeline self.new.keeper ≡ K.pipeline self.old.keeper) }
+        ensures represents { (blocks : List Block) → RepresentsBlocks self.old blocks → RepresentsBlocks self.new blocks }
+        ensures keeps { (blocks : List Block) (commits : Commits) → KeepsBlocks K.stands self.old blocks commits
+            → KeepsBlocks K.stands self.new blocks commits }
+        ensures later { (commits : Commits) → K.stands self.old.keeper commits → K.later self.old.keeper commits self.new.keeper commits }
+        ensures after { K.comes_after self.old.keeper self.new.keeper }
+        ensures counted { CountsFault (disk_failed result) (K.fault_count self.old.keeper) (K.fault_count self.new.keeper) }
+        ensures cause { IfErr result (IsCause (K.due self.new.keeper calls.Log)) }
+    {
+        match self.keeper.log() {
+            Ok(answer) => Ok(answer),
+            Err(fault) => Err(fault),
+        }
+    }
+
+    /// Makes sure that what is logged outlasts a crash, and answers how many commits that are.
+    pub(crate) fn flush(&mut self) -> Result<u64, KeepFault>
+        ensures steps { IfOk result (λ r. K.steps self.old.keeper (answers.Flushed r) self.new.keeper) }
+        ensures unchanged { OnErr result (K.pipeline self.new.keeper ≡ K.pipeline self.old.keeper) }
+        ensures represents { (blocks : List Block) → RepresentsBlocks self.old blocks → RepresentsBlocks self.new blocks }
+        ensures keeps { (blocks : List Block) (commits : Commits) → KeepsBlocks K.stands self.old blocks commits
+            → KeepsBlocks K.stands self.new blocks commits }
+        ensures later { (commits : Commits) → K.stands self.old.keeper commits → K.later self.old.keeper commits self.new.keeper commits }
+        ensures after { K.comes_after self.old.keeper self.new.keeper }
+        ensures counted { CountsFault (disk_failed result) (K.fault_count self.old.keeper) (K.fault_count self.new.keeper) }
+        ensures cause { IfErr result (IsCause (K.due self.new.keeper calls.Flush)) }
+    {
+        match self.keeper.flush() {
+            Ok(answer) => Ok(answer),
+            Err(fault) => Err(fault),
+        }
+    }
+
+    /// Writes the oldest flushed record that isn't enacted to the tables, and answers its number of commits; none where there is no
+    /// such record.
+    pub(crate) fn enact(&mut self) -> Result<Option<u64>, KeepFault>
+        ensures steps { IfOk result (λ r. K.steps self.old.keeper (answers.Enacted r) self.new.keeper) }
+        ensures unchanged { OnErr result (K.pipeline self.new.keeper ≡ K.pipeline self.old.keeper) }
+        ensures represents { (blocks : List Block) → RepresentsBlocks self.old blocks → RepresentsBlocks self.new blocks }
+        ensures keeps { (blocks : List Block) (commits : Commits) → KeepsBlocks K.stands self.old blocks commits
+            → KeepsBlocks K.stands self.new blocks commits }
+        ensures later { (commits : Commits) → K.stands self.old.keeper commits → K.later self.old.keeper commits self.new.keeper commits }
+        ensures after { K.comes_after self.old.keeper self.new.keeper }
+        ensures counted { CountsFault (disk_failed result) (K.fault_count self.old.keeper) (K.fault_count self.new.keeper) }
+        ensures cause { IfErr result (IsCause (K.due self.new.keeper calls.Enact)) }
+    {
+        match self.keeper.enact() {
+            Ok(answer) => Ok(answer),
+            Err(fault) => Err(fault),
+        }
+    }
+
+    /// Makes sure that what is enacted outlasts a crash without its records, and answers how many commits that are.
+    pub(crate) fn clean(&mut self) -> Result<u64, KeepFault>
+        ensures steps { IfOk result (λ r. K.steps self.old.keeper (answers.Cleaned r) self.new.keeper) }
+        ensures unchanged { OnErr result (K.pipeline self.new.keeper ≡ K.pipeline self.old.keeper) }
+        ensures represents { (blocks : List Block) → RepresentsBlocks self.old blocks → RepresentsBlocks self.new blocks }
+        ensures keeps { (blocks : List Block) (commits : Commits) → KeepsBlocks K.stands self.old blocks commits
+            → KeepsBlocks K.stands self.new blocks commits }
+        ensures later { (commits : Commits) → K.stands self.old.keeper commits → K.later self.old.keeper commits self.new.keeper commits }
+        ensures after { K.comes_after self.old.keeper self.new.keeper }
+        ensures counted { CountsFault (disk_failed result) (K.fault_count self.old.keeper) (K.fault_count self.new.keeper) }
+        ensures cause { IfErr result (IsCause (K.due self.new.keeper calls.Clean)) }
+    {
+        match self.keeper.clean() {
+            Ok(answer) => Ok(answer),
+            Err(fault) => Err(fault),
+        }
+    }
+
+    /// Moves a batch of an index that grows.
+    pub(crate) fn grow(&mut self) -> Result<Grown, KeepFault>
+        ensures steps { IfOk result (λ r. K.steps self.old.keeper (answers.Grown r) self.new.keeper) }
+        ensures unchanged { OnErr result (K.pipeline self.new.keeper ≡ K.pipeline self.old.keeper) }
+        ensures represents { (blocks : List Block) → RepresentsBlocks self.old blocks → RepresentsBlocks self.new blocks }
+        ensures keeps { (blocks : List Block) (commits : Commits) → KeepsBlocks K.stands self.old blocks commits
+            → KeepsBlocks K.stands self.new blocks commits }
+        ensures later { (commits : Commits) → K.stands self.old.keeper commits → K.later self.old.keeper commits self.new.keeper commits }
+        ensures after { K.comes_after self.old.keeper self.new.keeper }
+        ensures counted { CountsFault (disk_failed result) (K.fault_count self.old.keeper) (K.fault_count self.new.keeper) }
+        ensures cause { IfErr result (IsCause (K.due self.new.keeper calls.Grow)) }
+    {
+        match self.keeper.grow() {
+            Ok(answer) => Ok(answer),
+            Err(fault) => Err(fault),
+        }
     }
 }

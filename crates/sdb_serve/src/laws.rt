@@ -1,8 +1,11 @@
-ghost use Rattle.std.specs.Prelude.{◌≡◌, ℕ, List, [], ◌∷◌, ◌++◌, codes, Some, None};
+ghost use Rattle.std.specs.Prelude.{◌≡◌, ◌↔◌, ℕ, List, [], ◌∷◌, ◌++◌, codes, Some, None};
+ghost use Rattle.sdb_base.specs.Pipeline.{Pipeline, StepsUncrowded};
 ghost use Rattle.sdb_base.specs.declared.NodeHash.{NodeHash};
+ghost use Rattle.sdb_base.specs.declared.numbers.StageAnswer.{StageAnswer};
 ghost use Rattle.sdb_model.specs.Clear.{Clear};
 ghost use Rattle.sdb_serve.specs.Runs.{IsFirstBad, IsRun, IsScript, Run, last_line, usage_line};
 ghost use Rattle.sdb_serve.specs.Session.{SessionState, first_session, play_line, play_lines};
+ghost use Rattle.sdb_serve.specs.StageLines.{IsInOrder, after_stage, stage_answered, stage_reply};
 ghost use Rattle.sdb_serve.specs.Statuses.{status_code, status_of};
 
 use crate::cause::Cause;
@@ -18,6 +21,18 @@ pub fn first_bad_line_is_one()
 pub fn a_clear_run_is_the_models()
     ensures { (r : Run) (input : List ℕ) → IsRun r input → Clear r.session.blocks
         → play_lines first_session r.lines ≡ Some (r.replies, r.session) }
+{}
+
+/// Where no more records are flushed than wait, and no more commits logged than were accepted, a stage line is answered as the
+/// stage of a pipeline answers where no index is ever without room, and leaves what that leaves.
+pub fn a_stage_has_one_answer()
+    ensures { (p q : Pipeline) (answer : StageAnswer) → IsInOrder p → StepsUncrowded p answer q
+        ↔ ((answer ≡ stage_reply p (stage_answered answer)) × (q ≡ after_stage p (stage_answered answer))) }
+{}
+
+/// So it is after each run.
+pub fn commits_come_in_order()
+    ensures { (r : Run) (input : List ℕ) → IsRun r input → IsInOrder r.session.pipeline }
 {}
 
 /// A script may have 1,099,511,627,776 bytes: an empty line, of one byte, is answered where it is the last of them, and

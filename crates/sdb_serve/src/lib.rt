@@ -8,7 +8,7 @@
 //! the trie of this fold, where no two different nodes have one hash; else it is one of its kind. Each status comes by its cause alone, the run stops at its first fault, and no more than
 //! 65,536 bytes beyond the line where it stops are read. A bad line (`Cause::BadLine`) is one that isn't in the
 //! grammar (`LineFault` of the layer below), or that the lines before it refuse (`PlayFault`), or that isn't ended. The
-//! definitions are `Jobs`, `Session`, `Replies`, `Playing`, `Runs` and `Statuses` in `specs/`; `specs/inner` is the crate's own. Which words,
+//! definitions are `Jobs`, `StageLines`, `Session`, `Replies`, `Playing`, `Runs` and `Statuses` in `specs/`; `specs/inner` is the crate's own. Which words,
 //! source and sink there are is left to the program.
 #![tactic(auto)]
 
@@ -24,6 +24,7 @@ mod status;
 pub use cause::Cause;
 pub use entry::run;
 pub use laws::{
-    a_clear_run_is_the_models, a_script_has_its_most_bytes, first_bad_line_is_one, known_ends,
+    a_clear_run_is_the_models, a_script_has_its_most_bytes, a_stage_has_one_answer,
+    commits_come_in_order, first_bad_line_is_one, known_ends,
 };
 pub use status::Status;

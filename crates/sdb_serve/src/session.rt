@@ -1,23 +1,26 @@
 ghost use Rattle.std.specs.Prelude.{◌≡◌, ◌+◌, ◌^◌, ◌≤◌, List, length, Option, Some, None, IfErr, IfOk, OnOk, OnErr, IsErrOf};
+ghost use Rattle.sdb_base.specs.Keeping.{Commits};
 ghost use Rattle.sdb_base.specs.declared.Block.{Block};
 ghost use Rattle.sdb_base.specs.declared.NodeHash.{NodeHash};
 ghost use Rattle.sdb_model.specs.Clear.{Clear};
 ghost use Rattle.sdb_script.specs.declared.line.LineReply.{LineReply};
 ghost use Rattle.sdb_serve.specs.Playing.{MayMeetBadNode, MayPlay};
-ghost use Rattle.sdb_serve.specs.Replies.{MayAnswer, MayReply};
+ghost use Rattle.sdb_serve.specs.Replies.{IsOfKind, MayAnswer, MayReply};
 ghost use Rattle.sdb_serve.specs.Session.{SessionState, answer, first_session, answer_job, play_line, reply_lines};
+ghost use Rattle.sdb_serve.specs.StageLines.{pipeline_after, stage_answered};
 ghost use Rattle.sdb_script.specs.Grammar.{line_of};
 ghost use Rattle.sdb_script.specs.LineTexts.{IsWithin};
 ghost use Rattle.sdb_script.specs.declared.line.Line.TheVariants as lines;
-ghost use Rattle.sdb_serve.specs.inner.Blocks.{RepresentsBlocks};
+ghost use Rattle.sdb_serve.specs.inner.Blocks.{KeepsBlocks, RepresentsBlocks};
+ghost use Rattle.sdb_serve.specs.inner.Kept.{ClearsAlike, MeetsNoBadNode};
 ghost use Rattle.sdb_serve.specs.inner.Pieces.{as_piece};
 ghost use Rattle.sdb_serve.specs.declared.session.PlayFault.TheVariants.{NotAnswered, OutOfMemory};
 
 use crate::blocks::BlockMap;
 use crate::nodes::NodeFault;
-use sdb_base::NodeHash;
+use sdb_base::{KeepFault, Keeper, MapKeeper, NodeHash, StageAnswer, Stages};
 use sdb_model::{Refusal, Reply, Task};
-use sdb_script::{Line, LineFault, LineReply, parse_line, reply_text};
+use sdb_script::{Line, LineFault, LineReply, Stage, parse_line, reply_text};
 use std::alloc::{AllocError, AllocFailed, Global};
 
 // At most so many bytes of a script are read.
@@ -46,7 +49,18 @@ impl From<NodeFault> for PlayFault {
         match fault {
             NodeFault::OutOfMemory => PlayFault::OutOfMemory,
             NodeFault::BadNode { hash } => PlayFault::BadNode { hash },
+            // a keeper in memory that is to fail no call has no other fault than want of memory
+            NodeFault::Keep(_) => PlayFault::OutOfMemory,
         }
+    }
+}
+
+impl From<KeepFault> for PlayFault {
+    ghost from_gives = { λ _ e. e ≡ OutOfMemory };
+
+    // a keeper in memory that is to fail no call has no other fault than want of memory
+    fn from(_fault: KeepFault) -> PlayFault {
+        PlayFault::OutOfMemory
     }
 }
 
@@ -73,7 +87,7 @@ pub(crate) struct Session {
     begun: bool,
     // the pruning window of genesis, by which nothing is pruned yet
     window: u32,
-    blocks: BlockMap,
+    blocks: BlockMap<MapKeeper>,
     // the bytes of the lines so far, line feeds included
     read: u64,
     lines: u64,
@@ -109,13 +123,20 @@ fn write_reply(
     Ok(())
 }
 
-fn answer_job(blocks: &mut BlockMap, task: Task) -> Result<Reply, NodeFault>
+/// The answer to a job on the accepted blocks.
+fn answer_job<K: Keeper>(blocks: &mut BlockMap<K>, task: Task) -> Result<Reply, NodeFault>
     requires { IsWithin (lines.Job task) }
-    ensures may { (all : List Block) → RepresentsBlocks blocks.old all → IfOk result (MayAnswer all task) }
-    ensures after { (all : List Block) → RepresentsBlocks blocks.old all
+    ensures kind { (all : List Block) → RepresentsBlocks blocks.old all → IfOk result (IsOfKind task (answer_job all task).0) }
+    ensures represents { (all : List Block) → RepresentsBlocks blocks.old all
         → OnOk result (RepresentsBlocks blocks.new (answer_job all task).1) }
-    ensures sound { (all : List Block) → RepresentsBlocks blocks.old all → Clear (answer_job all task).1
-        → IfErr result (λ e. e ≡ NodeFault.OutOfMemory) }
+    ensures pipeline { (all : List Block) → RepresentsBlocks blocks.old all
+        → OnOk result (K.pipeline blocks.new.keeper ≡ pipeline_after (answer_job all task).0 (K.pipeline blocks.old.keeper)) }
+    ensures may { (all : List Block) (commits : Commits) → KeepsBlocks K.stands blocks.old all commits → ClearsAlike K.clear
+        → IfOk result (MayAnswer all task) }
+    ensures keeps { (all : List Block) (commits : Commits) → KeepsBlocks K.stands blocks.old all commits → ClearsAlike K.clear
+        → OnOk result ((next : Commits) × KeepsBlocks K.stands blocks.new (answer_job all task).1 next) }
+    ensures sound { (all : List Block) (commits : Commits) → KeepsBlocks K.stands blocks.old all commits → ClearsAlike K.clear
+        → Clear (answer_job all task).1 → IfErr result MeetsNoBadNode }
 {
     match task {
         Task::Read { id, key } => blocks.read(id, key),
@@ -123,6 +144,22 @@ fn answer_job(blocks: &mut BlockMap, task: Task) -> Result<Reply, NodeFault>
         Task::List { id, prefix } => blocks.list(id, prefix),
         Task::Root { id } => Ok(blocks.root(&id)),
         Task::Import(block) => blocks.import(block),
+    }
+}
+
+/// The answer of one step of a stage.
+fn answer_stage<K: Stages>(blocks: &mut BlockMap<K>, stage: Stage) -> Result<StageAnswer, KeepFault>
+    ensures of_stage { IfOk result (λ answer. stage_answered answer ≡ stage) }
+    ensures steps { IfOk result (λ answer. K.steps blocks.old.keeper answer blocks.new.keeper) }
+    ensures keeps { (all : List Block) (commits : Commits) → KeepsBlocks K.stands blocks.old all commits
+        → KeepsBlocks K.stands blocks.new all commits }
+{
+    match stage {
+        Stage::Log => Ok(StageAnswer::Logged(blocks.log()?)),
+        Stage::Flush => Ok(StageAnswer::Flushed(blocks.flush()?)),
+        Stage::Enact => Ok(StageAnswer::Enacted(blocks.enact()?)),
+        Stage::Clean => Ok(StageAnswer::Cleaned(blocks.clean()?)),
+        Stage::Grow => Ok(StageAnswer::Grown(blocks.grow()?)),
     }
 }
 
@@ -139,7 +176,7 @@ impl Session {
             alloc,
             begun: false,
             window: 0,
-            blocks: BlockMap::new(alloc),
+            blocks: BlockMap::new(alloc, MapKeeper::new(alloc)),
             read: 0,
             lines: 0,
         }
@@ -193,7 +230,25 @@ impl Session {
                 let reply = answer_job(&mut self.blocks, task)?;
                 Ok(Some(LineReply::Job(reply)))
             }
+            Line::Stage(stage) => self.step(stage),
         }
+    }
+
+    /// Carries out a stage line.
+    fn step(&mut self, stage: Stage) -> Result<Option<LineReply>, PlayFault>
+        ensures answer { (s : SessionState) → Represents self.old s → IfOk result (λ reply. (model : Option LineReply)
+            × (next : SessionState) × (answer s (lines.Stage stage) ≡ Some (model, next)) × (reply ≡ model) × Represents self.new next) }
+        ensures refused { (s : SessionState) → Represents self.old s → IsErrOf result PlayFault.NotAnswered
+            → answer s (lines.Stage stage) ≡ None }
+        ensures no_node { (hash : NodeHash) → ¬ IsErrOf result (PlayFault.BadNode hash) }
+        ensures lines { self.new.lines ≡ self.old.lines }
+        ensures read { self.new.read ≡ self.old.read }
+    {
+        if !self.begun {
+            return Err(PlayFault::NotAnswered);
+        }
+        let answer = answer_stage(&mut self.blocks, stage)?;
+        Ok(Some(LineReply::Stage(answer)))
     }
 
     /// Answers a line: its reply, with a line feed, replaces what is in `text`, and a line that gets none leaves it

@@ -11,7 +11,7 @@ use std::test::*;
 // In the tables a bar ends a line.
 
 // Scripts that are answered to their end, and their replies.
-const ANSWERED: [(&str, &str); 20] = [
+const ANSWERED: [(&str, &str); 24] = [
     ("", ""),
     (
         "new 0|genesis 01 4 aa=01 bb=07|import 02 01 aa=02|import 03 01 aa=03|read 02 aa|read 03 aa|read 01 aa|read 02 bb|",
@@ -102,10 +102,30 @@ const ANSWERED: [(&str, &str); 20] = [
         "new 0|genesis 01 4|import 01 09|import 01 01|",
         "new|genesis|refused 4 UnknownParent|refused 3 AlreadyExists|",
     ),
+    // each stage before genesis
+    (
+        "new 0|log|enact|clean|grow|flush|flush|",
+        "new|idle|idle|cleaned 0|idle|flushed 0|flushed 0|",
+    ),
+    // genesis and four imports are commits, and the refused one is none
+    (
+        "new 0|genesis 01 4 aa=01|import 02 01 aa=02|import 03 02 bb=03|import 02 03|import 04 01|import 05 04 aa!|log|log|log|log|log|log|flush|enact|enact|enact|enact|enact|enact|clean|grow|",
+        "new|genesis|import 1|import 2|refused 3 AlreadyExists|import 1|import 2|logged 1|logged 2|logged 3|logged 4|logged 5|idle|flushed 5|enacted 1|enacted 2|enacted 3|enacted 4|enacted 5|idle|cleaned 5|idle|",
+    ),
+    // enacting stops at the last flushed record, and reads are as before
+    (
+        "new 0|genesis 01 4 aa=01|import 02 01 aa=02|import 03 02 bb=03|enact|log|log|read 02 aa|log|flush|log|enact|enact|read 02 aa|enact|enact|clean|flush|read 03 bb|enact|import 04 03 cc=04|log|clean|list 04 -|flush|enact|clean|",
+        "new|genesis|import 1|import 2|idle|logged 1|logged 2|value 02|logged 3|flushed 3|idle|enacted 1|enacted 2|value 02|enacted 3|idle|cleaned 3|flushed 3|value 03|idle|import 3|logged 4|cleaned 3|list aa bb cc|flushed 4|enacted 4|cleaned 4|",
+    ),
+    // a second flush, where more was logged than the first one flushed
+    (
+        "new 0|genesis 01 4 aa=01|import 02 01|import 03 01|import 04 01|import 05 01|log|log|log|flush|log|log|enact|enact|enact|enact|clean|flush|enact|enact|enact|clean|read 05 aa|genesis 06 4|log|",
+        "new|genesis|import 1|import 1|import 1|import 1|logged 1|logged 2|logged 3|flushed 3|logged 4|logged 5|enacted 1|enacted 2|enacted 3|idle|cleaned 3|flushed 5|enacted 4|enacted 5|idle|cleaned 5|value 01|refused 9 HasGenesis|idle|",
+    ),
 ];
 
 // Scripts that stop at a bad line, and what is written up to it.
-const STOPPED: [(&str, &str); 10] = [
+const STOPPED: [(&str, &str); 14] = [
     // the last line has no line feed
     ("new 0|genesis 01 4", "new|stop 3 line 2|"),
     // comments and empty lines are counted
@@ -122,6 +142,10 @@ const STOPPED: [(&str, &str); 10] = [
     ("genesis 01 4|", "stop 3 line 1|"),
     ("read 01 aa|", "stop 3 line 1|"),
     ("import 02 01|", "stop 3 line 1|"),
+    ("log|", "stop 3 line 1|"),
+    ("# c|flush|new 0|", "stop 3 line 2|"),
+    ("new 0|log|new 0|", "new|idle|stop 3 line 3|"),
+    ("new 0|log|log 1|", "new|idle|stop 3 line 3|"),
     ("new 0|new 0|genesis 01 4|", "new|stop 3 line 2|"),
     // words that begin no line
     ("open|", "stop 3 line 1|"),

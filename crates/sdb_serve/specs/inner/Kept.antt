@@ -1,13 +1,15 @@
--- The nodes of states in a keeper.
-use Rattle.std.specs.Prelude.{◌≡◌, ◌⊎◌, ℕ, List, [], map, All, Contains, Some}
+-- The nodes of states among the commits of a keeper, and what its faults come to.
+use Rattle.std.specs.Prelude.{◌≡◌, ◌⊎◌, ℕ, Bool, false, List, map, All, Any, Contains, Some, Result, Ok, Err}
 use Rattle.std.specs.FinMap.{entries}
-use Rattle.sdb_base.specs.Content.{Counted}
-use Rattle.sdb_base.specs.Keeping.{Commits}
-use Rattle.sdb_base.specs.MapKeeping.{KeepsCommits, keeper_calls_to_fail, kept_node}
+use Rattle.sdb_base.specs.Content.{Counted, node_under}
+use Rattle.sdb_base.specs.Keeping.{AddsNode, Commits, is_disk, operations}
 use Rattle.sdb_base.specs.declared.node.Node.{Node}
+use Rattle.sdb_base.specs.declared.numbers.KeepFault.{KeepFault}
+use Rattle.sdb_base.specs.declared.numbers.KeepFault.TheVariants as keeper
+use Rattle.sdb_base.specs.declared.numbers.KeeperCall.{KeeperCall}
+use Rattle.sdb_base.specs.declared.numbers.KeeperCall.TheVariants as calls
 use Rattle.sdb_base.specs.declared.op.Op.{Op}
 use Rattle.sdb_base.specs.declared.op.Op.TheVariants.{AddRef}
-use Rattle.sdb_base.specs.declared.map_keeper.MapKeeper.{MapKeeper}
 use Rattle.sdb_blake2.specs.Blake2b.{H}
 use Rattle.sdb_model.specs.State.{State}
 use Rattle.trie_model.specs.Nodes.{PathNode, stored_nodes}
@@ -16,38 +18,73 @@ use Rattle.trie_root.specs.Suffixes.{IsEntry}
 use Rattle.trie_read.specs.declared.TrieFault.{TrieFault}
 use Rattle.trie_read.specs.declared.TrieFault.TheVariants as trie
 use Rattle.sdb_serve.specs.declared.nodes.NodeFault.{NodeFault}
-use Rattle.sdb_serve.specs.declared.nodes.NodeFault.TheVariants.{OutOfMemory, BadNode}
+use Rattle.sdb_serve.specs.declared.nodes.NodeFault.TheVariants.{OutOfMemory, BadNode, Keep}
+
+-- ---- faults
 
 -- what comes of a job's fault
 abbrev pub node_fault_of : TrieFault → NodeFault
 node_fault_of (trie.BadNode hash) = BadNode hash
 node_fault_of trie.OutOfMemory = OutOfMemory
 
--- no call of the keeper is to fail, and it keeps what some commits leave
-pub record IsReliable (keeper : MapKeeper) : Type 0 where
-  pub steady : keeper_calls_to_fail keeper ≡ []
-  pub commits : Commits
-  pub stands : KeepsCommits keeper commits
+-- what comes of a keeper's fault: want of memory is that, and any other is carried
+abbrev pub fault_of_keeper : KeepFault → NodeFault
+fault_of_keeper keeper.OutOfMemory = OutOfMemory
+fault_of_keeper keeper.Disk = Keep keeper.Disk
+fault_of_keeper (keeper.Stopped call) = Keep (keeper.Stopped call)
+fault_of_keeper (keeper.ValueTooLong len) = Keep (keeper.ValueTooLong len)
+fault_of_keeper (keeper.IndexFull column bits chunk) = Keep (keeper.IndexFull column bits chunk)
+fault_of_keeper (keeper.TierFull column tier) = Keep (keeper.TierFull column tier)
+fault_of_keeper (keeper.Damaged file cell) = Keep (keeper.Damaged file cell)
+fault_of_keeper (keeper.NumbersEnd which) = Keep (keeper.NumbersEnd which)
 
--- the bytes are kept under their hash
-abbrev pub IsKept : MapKeeper → List ℕ → Type 0
-IsKept keeper bytes = (c : Counted) × (kept_node keeper (H bytes) ≡ Some c) × (c.bytes ≡ bytes)
+-- whether a fault is that of the keeper's disk
+abbrev pub is_of_disk : NodeFault → Bool
+is_of_disk OutOfMemory = false
+is_of_disk (BadNode hash) = false
+is_of_disk (Keep fault) = is_disk fault
+
+-- whether the keeper's disk failed a call of a job
+abbrev pub keeper_disk_failed : {A : Type 0} → Result A NodeFault → Bool
+keeper_disk_failed (Ok a) = false
+keeper_disk_failed (Err e) = is_of_disk e
+
+-- A fault of the keeper comes only where its disk failed, or where it was due.
+abbrev pub IsKeeperCause : (KeepFault → Type 0) → NodeFault → Type 0
+IsKeeperCause due OutOfMemory = Unit {0}
+IsKeeperCause due (BadNode hash) = Unit {0}
+IsKeeperCause due (Keep fault) = (fault ≡ keeper.Disk) ⊎ due fault
+
+-- every wanted node was there and hung where it was wanted
+abbrev pub MeetsNoBadNode : NodeFault → Type 0
+MeetsNoBadNode OutOfMemory = Unit {0}
+MeetsNoBadNode (BadNode hash) = ⊥
+MeetsNoBadNode (Keep fault) = Unit {0}
+
+-- ---- nodes
+
+-- all references to nodes that were added under this key carry the same bytes
+abbrev pub AddsAlike : Commits → List ℕ → Type 0
+AddsAlike commits key = (a b : List ℕ) → Any (AddsNode key a) (operations commits) → Any (AddsNode key b) (operations commits) → a ≡ b
+
+-- a keeper confuses nothing where all references under a key carry the same bytes
+abbrev pub ClearsAlike : (KeeperCall → Commits → List ℕ → Type 0) → Type 0
+ClearsAlike clear = (commits : Commits) (key : List ℕ) → AddsAlike commits key → clear calls.Node commits key
+
+-- after the commits the bytes are under their hash
+abbrev pub IsKept : Commits → List ℕ → Type 0
+IsKept commits bytes = (c : Counted) × (node_under (operations commits) (H bytes) ≡ Some c) × (c.bytes ≡ bytes)
 
 -- each stored node of the state is
-abbrev pub HasNodes : MapKeeper → State → Type 0
-HasNodes keeper m = (n : PathNode) → Contains (stored_nodes m) n → IsKept keeper n.bytes
+abbrev pub HasNodes : Commits → State → Type 0
+HasNodes commits m = (n : PathNode) → Contains (stored_nodes m) n → IsKept commits n.bytes
 
--- the state of this root, each of whose stored nodes is, reliably
-pub record IsKeptState (keeper : MapKeeper) (root : List ℕ) (m : State) : Type 0 where
-  pub reliable : IsReliable keeper
+-- the state of this root, each of whose stored nodes is, where no two different nodes were added under one hash
+pub record IsKeptState (commits : Commits) (root : List ℕ) (m : State) : Type 0 where
   pub entries_are : All IsEntry (entries m)
   pub root_is : root ≡ trie_root m
-  pub nodes : HasNodes keeper m
-
--- the same nodes are kept, as reliably
-pub record IsSameKeeper (old new : MapKeeper) : Type 0 where
-  pub nodes : (key : List ℕ) → kept_node new key ≡ kept_node old key
-  pub reliable : IsReliable new
+  pub nodes : HasNodes commits m
+  pub alike : (key : List ℕ) → AddsAlike commits key
 
 -- one reference more to each of some nodes
 abbrev pub reference_to : Node → Op
@@ -55,10 +92,3 @@ reference_to n = AddRef n.hash n.bytes
 
 abbrev pub references_to : List Node → List Op
 references_to nodes = map reference_to nodes
-
--- Nodes were added: what was kept still is; each of the nodes has bytes under its hash; and what is kept was, or is one of them.
-pub record AddsNodes (old new : MapKeeper) (puts : List Node) : Type 0 where
-  pub still : (key : List ℕ) (c : Counted) → kept_node old key ≡ Some c → (d : Counted) × (kept_node new key ≡ Some d) × (d.bytes ≡ c.bytes)
-  pub each : (n : Node) → Contains puts n → (d : Counted) × (kept_node new n.hash.0 ≡ Some d)
-  pub only : (key : List ℕ) (d : Counted) → kept_node new key ≡ Some d
-      → ((c : Counted) × (kept_node old key ≡ Some c) × (d.bytes ≡ c.bytes)) ⊎ ((n : Node) × Contains puts n × (n.hash.0 ≡ key) × (n.bytes ≡ d.bytes))

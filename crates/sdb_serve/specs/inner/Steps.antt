@@ -1,11 +1,13 @@
 -- The steps of a run: one line, the lines of a piece of the input, and the last line.
 use Rattle.std.specs.Prelude.{◌≡◌, ◌⊎◌, ℕ, List, [], ◌∷◌, ◌++◌, length, drop, true, false, Option}
 use Rattle.sdb_io.specs.Faults.{CountsFault}
+use Rattle.sdb_base.specs.Keeping.{Commits}
+use Rattle.sdb_base.specs.MapKeeping.{KeepsCommits, kept_pipeline}
 use Rattle.sdb_io.specs.Output.{Gets, GetsPrefix, Output}
 use Rattle.sdb_serve.specs.Playing.{MayPlay}
 use Rattle.sdb_serve.specs.Session.{SessionState}
 use Rattle.sdb_serve.specs.Statuses.{status_of}
-use Rattle.sdb_serve.specs.inner.Blocks.{RepresentsBlocks}
+use Rattle.sdb_serve.specs.inner.Blocks.{KeepsBlocks}
 use Rattle.sdb_serve.specs.Runs.{IsAnswered, IsNear, IsRun, MayStop, Run, Waits, last_line}
 use Rattle.sdb_serve.specs.declared.session.Session.{Session}
 use Rattle.sdb_serve.specs.declared.session.PlayFault.{PlayFault}
@@ -24,7 +26,9 @@ pub record Represents (p : Session) (s : SessionState) : Type 0 where
   pub begun : p.begun ≡ s.begun
   pub window : p.window ≡ s.window
   pub read : p.read ≡ s.read
-  pub blocks : RepresentsBlocks p.blocks s.blocks
+  pub pipeline : kept_pipeline p.blocks.keeper ≡ s.pipeline
+  pub commits : Commits
+  pub blocks : KeepsBlocks KeepsCommits p.blocks s.blocks commits
 
 -- a line that isn't answered is bad
 abbrev pub cause_of : PlayFault → Cause
@@ -32,10 +36,11 @@ cause_of NotAnswered = causes.BadLine
 cause_of OutOfMemory = causes.Memory
 cause_of (BadNode hash) = causes.BadNode hash
 
--- what comes of a job's fault
+-- What comes of a job's fault. A keeper in memory that is to fail no call has none but want of memory.
 abbrev pub play_fault_of : NodeFault → PlayFault
 play_fault_of nodes.OutOfMemory = OutOfMemory
 play_fault_of (nodes.BadNode hash) = BadNode hash
+play_fault_of (nodes.Keep fault) = OutOfMemory
 
 -- Where this holds a fault is counted, and else none.
 abbrev pub CountsWhere : Type 0 → ℕ → ℕ → Type 0

@@ -34,6 +34,10 @@ pub returns-clause-root : goal.returns-clause-root
 unfolding script_on_literals
 returns-clause-root c = refl
 
+pub returns-clause-stages : goal.returns-clause-stages
+unfolding script_on_literals
+returns-clause-stages c = refl
+
 pub returns-clause-none : goal.returns-clause-none
 unfolding script_on_literals
 returns-clause-none c = refl

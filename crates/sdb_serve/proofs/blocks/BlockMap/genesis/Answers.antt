@@ -1,23 +1,36 @@
-use Rattle.std.proofs.Common.{◌+◌, Result, Ok, Err, OnOk, get_or, refl, sym, ap, subst, ◌∙◌}
+use Rattle.std.proofs.Common.{◌+◌, get_or, [], refl, sym, ap, ◌∙◌}
 use Rattle.sdb_serve.specs.inner.Blocks.{with_level}
-use Rattle.sdb_serve.specs.inner.Kept.{IsReliable}
-use Rattle.sdb_serve.proofs.KeptBlocks.{adds_to_same, represents_genesis}
+use Rattle.sdb_serve.proofs.Accepting.{on_err}
+use Rattle.sdb_serve.proofs.Keeping.{keeps_same, no_entry, represents_same}
+use Rattle.sdb_serve.proofs.KeptBlocks.{keeps_genesis, represents_genesis}
 use Rattle.sdb_serve.proofs.blocks.BlockMap.genesis.Goals as goal
 
-both_on_ok : {T E P Q R : Type 0} (r : Result T E) → (P → Q → R) → OnOk r P → OnOk r Q → OnOk r R
-both_on_ok (Ok x) then p q = then p q
-both_on_ok (Err e) then p q = tt
-
-pub returns : goal.returns
-returns c r =
-    both_on_ok c.add_entry.result (λ found levels.
-    represents_genesis c.args.self.now c.add_entry.new.self c.args.block c.in_ok-root.root c.in_ok-delta.delta r c.requires
+pub returns-clause-represents : goal.returns-clause-represents
+returns-clause-represents g c r =
+    represents_genesis c.args.self.now c.accept.new.self c.args.block c.in_ok-delta.delta r c.requires
     (record {
-      found = found;
-      levels = levels ∙ ap (λ k. with_level c.args.self.now.levels.items 0 (get_or k 0 0 + 1)) (sym (r.none refl));
-      root_is = c.in_ok-root.ensures.root;
-      adds = adds_to_same c.args.self.now.keeper c.args.self.now.keeper c.keep.new.keeper c.add_entry.new.self.keeper c.in_ok-delta.delta.puts
-          (record { nodes = λ key. refl; reliable = r.reliable }) (c.in_ok-root.ensures.kept r.reliable) c.add_entry.ensures.keeper;
-      reliable = subst IsReliable (sym c.add_entry.ensures.keeper) (c.in_ok-root.ensures.reliable r.reliable);
-    }) c.in_ok-delta.ensures.answer)
-    c.add_entry.ensures.added c.add_entry.ensures.levels
+      found = c.in_ok-accept.ensures.added;
+      levels = c.in_ok-accept.ensures.levels ∙ ap (λ k. with_level c.args.self.now.levels.items 0 (get_or k 0 0 + 1)) (sym (r.none refl));
+    })
+
+pub returns-clause-keeps : goal.returns-clause-keeps
+returns-clause-keeps g c commits keeps =
+    let r = keeps.represents in (
+      _,
+      (c.in_ok-delta.delta.puts, refl),
+      c.in_ok-accept.ensures.kept_later commits keeps.keeper,
+      keeps_genesis c.args.self.now c.accept.new.self c.args.block c.in_ok-delta.delta r c.requires
+          (record {
+            found = c.in_ok-accept.ensures.added;
+            levels = c.in_ok-accept.ensures.levels ∙ ap (λ k. with_level c.args.self.now.levels.items 0 (get_or k 0 0 + 1)) (sym (r.none refl));
+          }) g.K.Keeper.stands commits keeps (c.in_ok-accept.ensures.kept commits keeps.keeper) c.in_ok-delta.ensures.answer,
+    )
+
+pub returns-in_err-accept-clause-refused : goal.returns-in_err-accept-clause-refused
+returns-in_err-accept-clause-refused g c r =
+    on_err _ (represents_same c.args.self.now c.accept.new.self [] (c.in_err-accept.ensures.same (no_entry c.args.self.now c.args.block.id r)) r)
+
+pub returns-in_err-accept-clause-refused_keeps : goal.returns-in_err-accept-clause-refused_keeps
+returns-in_err-accept-clause-refused_keeps g c commits keeps =
+    on_err _ (keeps_same g.K.Keeper.stands c.args.self.now c.accept.new.self [] commits (c.in_err-accept.ensures.same (no_entry c.args.self.now c.args.block.id keeps.represents))
+    (c.in_err-accept.ensures.refused commits) keeps)

@@ -4,7 +4,7 @@ use Rattle.sdb_serve.proofs.Keeping.{no_levels}
 use Rattle.sdb_serve.proofs.blocks.BlockMap.is_empty.Goals as goal
 
 pub returns : goal.returns
-returns c blocks represents =
+returns g c blocks represents =
     let levels = c.args.self.now.levels in
     let long = levels.ok.0 in (
       (λ empty. no_levels c.args.self.now blocks represents (grind (arith, common_steps))),

@@ -51,6 +51,8 @@ returns-clause-answer c = λ s h.
         begun = a.4.begun;
         window = a.4.window;
         read = omega (arith, h.read, c.in_ok-reply.ensures.read);
+        pipeline = a.4.pipeline;
+        commits = a.4.commits;
         blocks = a.4.blocks;
       },
     )
