@@ -1,11 +1,10 @@
 -- What is found by a place.
-use Rattle.std.proofs.Common.{◌≡◌, ⊎_elim, ℕ, ◌-◌, ◌≤◌, ◌<◌, List, [], ◌∷◌, length, Some, None, sym, ap, subst, ◌∙◌, arith}
+use Rattle.std.proofs.Common.{◌≡◌, ℕ, ◌-◌, ◌≤◌, ◌<◌, List, [], ◌∷◌, length, Some, None, sym, ap, subst, ◌∙◌, arith}
 use Rattle.std.specs.Prelude.{get_or, slice_get}
 use Rattle.std.proofs.lemmas.Option.{slice_get_read}
 use Rattle.std.specs.Option.{option_or}
-use Rattle.std.specs.BTreeMap.{BTreeMap, get}
-use Rattle.pdb_cells.specs.Names.{name_cmp}
-use Rattle.pdb_cells.specs.Puts.{last_put}
+use Rattle.std.specs.HashMap.{HashMap, get}
+use Rattle.pdb_cells.specs.Puts.{last_put, same_cell}
 use Rattle.pdb_cells.specs.declared.CellName.{CellName}
 use Rattle.pdb_cells.specs.declared.Put.{Put}
 use Rattle.pdb_redo.specs.Places.{AreInOrder, AreInPlaces, IsNewestAt, IsPlaceOf}
@@ -47,10 +46,10 @@ first_number first [] w order e = cc
 first_number first (v ∷ ws) w order e = let same : v ≡ w = cc in ap (λ (u : Waiting). u.number) (sym same) ∙ order.0
 
 -- a cell without a place is in no record
-pub unknown_none : (ws : List Waiting) (places : BTreeMap CellName Place) (name : CellName) → AreInPlaces ws places → get name_cmp places name ≡ None → newest_in ws name ≡ None
+pub unknown_none : {S : Type 0} (ws : List Waiting) (places : HashMap CellName Place S) (name : CellName) → AreInPlaces ws places → get same_cell places name ≡ None → newest_in ws name ≡ None
 unknown_none ws places name are none = subst (IsPlaceOf ws name) none (are.known name)
 
-module _ (ws : List Waiting) (places : BTreeMap CellName Place) (name : CellName) (p : Place) (w : Waiting) (are : AreInPlaces ws places) (known : get name_cmp places name ≡ Some p)
+module _ {S : Type 0} (ws : List Waiting) (places : HashMap CellName Place S) (name : CellName) (p : Place) (w : Waiting) (are : AreInPlaces ws places) (known : get same_cell places name ≡ Some p)
     (first : slice_get ws 0 ≡ Some w) where
   number_is : w.number ≡ are.first
   number_is = first_number are.first ws w are.order first
@@ -58,18 +57,8 @@ module _ (ws : List Waiting) (places : BTreeMap CellName Place) (name : CellName
   placed : IsPlaceOf ws name (Some p)
   placed = subst (IsPlaceOf ws name) known (are.known name)
 
-  -- a place before the first record is of no put
-  pub found_none : p.number < w.number → newest_in ws name ≡ None
-  found_none low = ⊎_elim
-      (λ zero. zero.1)
-      (λ at. let put = newest_at are.first ws name p are.order at in let from = put.from in let f = number_is in absurd (omega (arith, from, f, low)))
-      placed
-
-  pub found_at : w.number ≤ p.number → IsPutOf ws name p w.number
-  found_at high = ⊎_elim
-      (λ zero. let z = zero.0 in let f = number_is in let one = are.from_one in absurd (omega (arith, z, f, one, high)))
-      (λ at. subst (IsPutOf ws name p) (sym number_is) (newest_at are.first ws name p are.order at))
-      placed
+  pub found_at : IsPutOf ws name p w.number
+  found_at = subst (IsPutOf ws name p) (sym number_is) (newest_at are.first ws name p are.order placed)
 
 -- what a place says, where its record is found
 pub put_found : (ws : List Waiting) (name : CellName) (p : Place) (first : ℕ) (w : Waiting) → IsPutOf ws name p first → slice_get ws (p.number - first) ≡ Some w
@@ -80,10 +69,10 @@ put_found ws name p first w is e =
     (is.put, ap (λ (v : Waiting). slice_get v.puts p.at) (sym same) ∙ is.there, is.bytes)
 
 -- the same by what a deque answers
-pub put_here : (ws : List Waiting) (n : ℕ) (places : BTreeMap CellName Place) (name : CellName) (p : Place) (w r : Waiting) → AreInPlaces ws places → Some p ≡ get name_cmp places name → n ≡ length ws
-    → 0 < n → w ≡ get_or ws 0 w → w.number ≤ p.number → p.number - w.number < n → r ≡ get_or ws (p.number - w.number) r
+pub put_here : {S : Type 0} (ws : List Waiting) (n : ℕ) (places : HashMap CellName Place S) (name : CellName) (p : Place) (w r : Waiting) → AreInPlaces ws places → Some p ≡ get same_cell places name → n ≡ length ws
+    → 0 < n → w ≡ get_or ws 0 w → p.number - w.number < n → r ≡ get_or ws (p.number - w.number) r
     → (put : Put) × (slice_get r.puts p.at ≡ Some put) × (newest_in ws name ≡ Some put.bytes)
-put_here ws n places name p w r are known long some first high within here =
+put_here ws n places name p w r are known long some first within here =
     put_found ws name p w.number r
-    (found_at ws places name p w are (sym known) (slice_get_read ws n 0 w long some first) high)
+    (found_at ws places name p w are (sym known) (slice_get_read ws n 0 w long some first))
     (slice_get_read ws n (p.number - w.number) r long within here)

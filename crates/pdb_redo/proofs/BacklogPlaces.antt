@@ -1,17 +1,16 @@
 -- The places of the newest puts, before and after the steps of a backlog.
-use Rattle.std.proofs.Common.{◌≡◌, inl, inr, ⊎_elim, ℕ, ◌+◌, ◌≤◌, List, [], ◌∷◌, ◌++◌, map, Option, Some, None, refl, sym, ap, subst, ◌∙◌, arith, append_assoc}
+use Rattle.std.proofs.Common.{◌≡◌, ⊎_elim, ℕ, ◌+◌, ◌≤◌, List, [], ◌∷◌, ◌++◌, map, Option, Some, None, refl, sym, ap, subst, ◌∙◌, arith, append_assoc}
 use Rattle.std.specs.Prelude.{slice_get}
 use Rattle.std.specs.Option.{option_or}
-use Rattle.std.specs.BTreeMap.{BTreeMap, get}
-use Rattle.pdb_cells.specs.Names.{name_cmp}
-use Rattle.pdb_cells.specs.Puts.{NoCellTwice, last_put}
+use Rattle.std.specs.HashMap.{HashMap, get}
+use Rattle.pdb_cells.specs.Puts.{NoCellTwice, last_put, same_cell}
 use Rattle.pdb_cells.specs.declared.CellName.{CellName}
 use Rattle.pdb_cells.specs.declared.Put.{Put}
 use Rattle.pdb_redo.specs.Backlogs.{IsNextNumber}
 use Rattle.pdb_redo.specs.Places.{AreInOrder, AreInPlaces, IsNewestAt, IsPlaceOf, newest, record_of}
 use Rattle.pdb_redo.specs.declared.waiting.Place.{Place}
 use Rattle.pdb_redo.specs.declared.waiting.Waiting.{Waiting}
-use Rattle.pdb_redo.specs.inner.Placing.{IsDroppedFrom, IsInRecord, GainsName, IsSetIn}
+use Rattle.pdb_redo.specs.inner.Placing.{IsDroppedFrom, IsInRecord, IsSetIn}
 use Rattle.pdb_redo.proofs.BacklogNewest.{none_both, none_puts, waiting-append}
 use Rattle.pdb_redo.proofs.BacklogOrder.{number_at, order_next}
 
@@ -19,20 +18,17 @@ abbrev pub newest_in : List Waiting → CellName → Option (List ℕ)
 newest_in ws name = newest (map record_of ws) name
 
 -- no records, and no places
-pub none_placed : (places : BTreeMap CellName Place) → ((name : CellName) → get name_cmp places name ≡ None) → AreInPlaces [] places
+pub none_placed : {S : Type 0} (places : HashMap CellName Place S) → ((name : CellName) → get same_cell places name ≡ None) → AreInPlaces [] places
 none_placed places none = record { first = 1; from_one = omega arith; order = tt; known = λ name. subst (IsPlaceOf [] name) (sym (none name)) refl }
 
--- ---- one more name
+-- ---- more room
 
-pub names_placed : (ws : List Waiting) (a b : BTreeMap CellName Place) → AreInPlaces ws a → ((name : CellName) → GainsName (get name_cmp a name) (get name_cmp b name)) → AreInPlaces ws b
-names_placed ws a b are named = record {
+pub still_in_places : {S : Type 0} (ws : List Waiting) (a b : HashMap CellName Place S) → AreInPlaces ws a → ((name : CellName) → get same_cell b name ≡ get same_cell a name) → AreInPlaces ws b
+still_in_places ws a b are same = record {
   first = are.first;
   from_one = are.from_one;
   order = are.order;
-  known = λ name. ⊎_elim
-      (λ same. subst (IsPlaceOf ws name) (sym same) (are.known name))
-      (λ new. subst (IsPlaceOf ws name) (sym new.1) (inl (refl, subst (IsPlaceOf ws name) new.0 (are.known name))))
-      (named name);
+  known = λ name. subst (IsPlaceOf ws name) (sym (same name)) (are.known name);
 }
 
 -- ---- one more record
@@ -42,23 +38,20 @@ none_more ws w name not none = waiting-append ws (w ∷ []) name ∙ ap (λ o. o
 
 still_placed : (ws : List Waiting) (w : Waiting) (name : CellName) (o : Option Place) → last_put w.puts name ≡ None → IsPlaceOf ws name o → IsPlaceOf (ws ++ w ∷ []) name o
 still_placed ws w name None not none = none_more ws w name not none
-still_placed ws w name (Some p) not is = ⊎_elim
-    (λ zero. inl (zero.0, none_more ws w name not zero.1))
-    (λ at. inr (record {
-      before = at.before;
-      waiting = at.waiting;
-      after = at.after ++ w ∷ [];
-      parts = ap (λ vs. vs ++ w ∷ []) at.parts ∙ append_assoc at.before (at.waiting ∷ at.after) (w ∷ []);
-      number = at.number;
-      put = at.put;
-      there = at.there;
-      name_is = at.name_is;
-      last = none_more at.after w name not at.last;
-    }))
-    is
+still_placed ws w name (Some p) not at = record {
+  before = at.before;
+  waiting = at.waiting;
+  after = at.after ++ w ∷ [];
+  parts = ap (λ vs. vs ++ w ∷ []) at.parts ∙ append_assoc at.before (at.waiting ∷ at.after) (w ∷ []);
+  number = at.number;
+  put = at.put;
+  there = at.there;
+  name_is = at.name_is;
+  last = none_more at.after w name not at.last;
+}
 
-pub push_placed : (ws : List Waiting) (w : Waiting) (a b : BTreeMap CellName Place) → AreInPlaces ws a → 1 ≤ w.number → IsNextNumber (map record_of ws) w.number → NoCellTwice w.puts
-    → ((name : CellName) → IsSetIn w.puts w.number name (get name_cmp a name) (get name_cmp b name)) → AreInPlaces (ws ++ w ∷ []) b
+pub push_placed : {S : Type 0} (ws : List Waiting) (w : Waiting) (a b : HashMap CellName Place S) → AreInPlaces ws a → 1 ≤ w.number → IsNextNumber (map record_of ws) w.number → NoCellTwice w.puts
+    → ((name : CellName) → IsSetIn w.puts w.number name (get same_cell a name) (get same_cell b name)) → AreInPlaces (ws ++ w ∷ []) b
 push_placed ws w a b are one next once set =
     let ordered = order_next are.first ws w are.from_one are.order one next once in
     record {
@@ -66,7 +59,7 @@ push_placed ws w a b are one next once set =
       from_one = ordered.from_one;
       order = ordered.order;
       known = λ name. ⊎_elim
-          (λ at. subst (IsPlaceOf (ws ++ w ∷ []) name) (sym at.place_is) (inr (record {
+          (λ at. subst (IsPlaceOf (ws ++ w ∷ []) name) (sym at.place_is) (record {
             before = ws;
             waiting = w;
             after = [];
@@ -76,8 +69,8 @@ push_placed ws w a b are one next once set =
             there = at.there;
             name_is = at.name_is;
             last = refl;
-          })))
-          (λ other. subst (IsPlaceOf (ws ++ w ∷ []) name) (sym other.1) (still_placed ws w name (get name_cmp a name) (none_puts w.puts name other.0) (are.known name)))
+          }))
+          (λ other. subst (IsPlaceOf (ws ++ w ∷ []) name) (sym other.1) (still_placed ws w name (get same_cell a name) (none_puts w.puts name other.0) (are.known name)))
           (set name);
     }
 
@@ -113,31 +106,25 @@ first_newest first w ws (b ∷ bs) v after name parts order same last =
     let f = order.0 in
     absurd (omega (arith, e, f, same))
 
-module _ (w : Waiting) (ws : List Waiting) (a b : BTreeMap CellName Place) (are : AreInPlaces (w ∷ ws) a)
-    (gone : (i : ℕ) (p : Put) → slice_get w.puts i ≡ Some p → IsInRecord (get name_cmp b p.name) w.number → ⊥) where
-  stays : (name : CellName) (o : Option Place) → get name_cmp b name ≡ o → IsPlaceOf (w ∷ ws) name o → IsPlaceOf ws name o
+module _ {S : Type 0} (w : Waiting) (ws : List Waiting) (a b : HashMap CellName Place S) (are : AreInPlaces (w ∷ ws) a)
+    (gone : (i : ℕ) (p : Put) → slice_get w.puts i ≡ Some p → IsInRecord (get same_cell b p.name) w.number → ⊥) where
+  stays : (name : CellName) (o : Option Place) → get same_cell b name ≡ o → IsPlaceOf (w ∷ ws) name o → IsPlaceOf ws name o
   stays name None e none = none_less w ws name none
-  stays name (Some p) e is = ⊎_elim
-      (λ zero. inl (zero.0, none_less w ws name zero.1))
-      (λ at. inr (later_newest w ws at.before at.waiting at.after name p at.put at.parts at.number at.there at.name_is at.last
+  stays name (Some p) e at = later_newest w ws at.before at.waiting at.after name p at.put at.parts at.number at.there at.name_is at.last
       (λ same. gone p.at at.put
       (ap (λ (v : Waiting). slice_get v.puts p.at) same ∙ at.there)
-      (record { at = p; there = ap (get name_cmp b) at.name_is ∙ e; here = sym at.number ∙ ap (λ (v : Waiting). v.number) (sym same) }))))
-      is
+      (record { at = p; there = ap (get same_cell b) at.name_is ∙ e; here = sym at.number ∙ ap (λ (v : Waiting). v.number) (sym same) }))
 
   dropped : (name : CellName) (p : Place) → p.number ≡ w.number → IsPlaceOf (w ∷ ws) name (Some p) → newest_in ws name ≡ None
-  dropped name p here is = ⊎_elim
-      (λ zero. none_less w ws name zero.1)
-      (λ at. first_newest are.first w ws at.before at.waiting at.after name at.parts are.order (at.number ∙ here) at.last)
-      is
+  dropped name p here at = first_newest are.first w ws at.before at.waiting at.after name at.parts are.order (at.number ∙ here) at.last
 
-  pub pop_placed : ((name : CellName) → IsDroppedFrom w.number (get name_cmp a name) (get name_cmp b name)) → AreInPlaces ws b
+  pub pop_placed : ((name : CellName) → IsDroppedFrom w.number (get same_cell a name) (get same_cell b name)) → AreInPlaces ws b
   pop_placed drops = record {
     first = are.first + 1;
     from_one = omega arith;
     order = are.order.2;
     known = λ name. ⊎_elim
-        (λ same. stays name (get name_cmp b name) refl (subst (IsPlaceOf (w ∷ ws) name) (sym same) (are.known name)))
+        (λ same. stays name (get same_cell b name) refl (subst (IsPlaceOf (w ∷ ws) name) (sym same) (are.known name)))
         (λ none. subst (IsPlaceOf ws name) (sym none.0) (let in_it = none.1 in dropped name in_it.at in_it.here (subst (IsPlaceOf (w ∷ ws) name) in_it.there (are.known name))))
         (drops name);
   }

@@ -1,9 +1,8 @@
 -- Where the newest bytes of cells are among records that wait.
-use Rattle.std.specs.Prelude.{◌≡◌, ◌⊎◌, ◌≤◌, ◌+◌, ℕ, List, [], ◌∷◌, ◌++◌, Option, Some, None, map, slice_get}
+use Rattle.std.specs.Prelude.{◌≡◌, ◌≤◌, ◌+◌, ℕ, List, [], ◌∷◌, ◌++◌, Option, Some, None, map, slice_get}
 use Rattle.std.specs.Option.{option_or}
-use Rattle.std.specs.BTreeMap.{BTreeMap, get}
-use Rattle.pdb_cells.specs.Names.{name_cmp}
-use Rattle.pdb_cells.specs.Puts.{NoCellTwice, last_put}
+use Rattle.std.specs.HashMap.{HashMap, get}
+use Rattle.pdb_cells.specs.Puts.{NoCellTwice, last_put, same_cell}
 use Rattle.pdb_cells.specs.declared.CellName.{CellName}
 use Rattle.pdb_cells.specs.declared.Put.{Put}
 use Rattle.pdb_model.specs.Records.{Record}
@@ -36,15 +35,14 @@ pub record IsNewestAt (records : List Waiting) (name : CellName) (p : Place) : T
   pub name_is : put.name ≡ name
   pub last : newest (map record_of after) name ≡ None
 
--- what is known of a cell by its place in the map, if it has one: a cell of number 0 has room there, and no record puts it
+-- what is known of a cell by its place in the map, if it has one
 abbrev pub IsPlaceOf : List Waiting → CellName → Option Place → Type 0
 IsPlaceOf records name None = newest (map record_of records) name ≡ None
-IsPlaceOf records name (Some p) = ((p.number ≡ 0) × (newest (map record_of records) name ≡ None)) ⊎ IsNewestAt records name p
+IsPlaceOf records name (Some p) = IsNewestAt records name p
 
--- Each cell that a record puts is known with the place of its newest put. A cell that none puts is unknown, or known with the
--- number 0.
-pub record AreInPlaces (records : List Waiting) (places : BTreeMap CellName Place) : Type 0 where
+-- The cells that the records put are known, each with the place of its newest put, and no others.
+pub record AreInPlaces {S : Type 0} (records : List Waiting) (places : HashMap CellName Place S) : Type 0 where
   pub first : ℕ
   pub from_one : 1 ≤ first
   pub order : AreInOrder first records
-  pub known : (name : CellName) → IsPlaceOf records name (get name_cmp places name)
+  pub known : (name : CellName) → IsPlaceOf records name (get same_cell places name)

@@ -4,13 +4,13 @@ ghost use Rattle.pdb_cells.specs.Puts.{NoCellTwice};
 ghost use Rattle.pdb_model.specs.Records.{Record};
 
 use crate::backlog::Backlog;
-use crate::places::{add_name, drop_places, set_places};
+use crate::places::{drop_places, set_places};
 use crate::queue::Queue;
 use crate::waiting::Waiting;
 use pdb_cells::{CellName, Puts};
 use sdb_base::OutOfMemory;
 use std::alloc::Global;
-use std::collections::{BTreeMap, VecDeque};
+use std::collections::{HashMap, VecDeque};
 
 impl Backlog {
     ghost use Rattle.pdb_redo.specs.Places.{newest, record_of};
@@ -23,7 +23,7 @@ impl Backlog {
         Backlog {
             queue: Queue {
                 records: VecDeque::new(alloc),
-                places: BTreeMap::new(alloc),
+                places: HashMap::new(alloc),
             },
         }
     }
@@ -34,9 +34,6 @@ impl Backlog {
     {
         let place = self.queue.places.get(name)?;
         let first = self.queue.records.front()?;
-        if place.number < first.number {
-            return None;
-        }
         let record = self
             .queue
             .records
@@ -50,9 +47,7 @@ impl Backlog {
         ensures room { OnOk result (HasPlaceFor self.new puts.now) }
     {
         self.queue.records.reserve(1)?;
-        for put in puts.as_slice() {
-            add_name(&mut self.queue.places, put.name)?;
-        }
+        self.queue.places.reserve(puts.len())?;
         Ok(())
     }
 

@@ -1,10 +1,10 @@
 use crate::waiting::{Place, Waiting};
 use pdb_cells::CellName;
-use std::collections::{BTreeMap, VecDeque};
+use std::collections::{HashMap, VecDeque};
 
 /// Records, oldest first, and places of cells among their puts.
 #[derive(Drop)]
 pub(crate) struct Queue {
     pub(crate) records: VecDeque<Waiting>,
-    pub(crate) places: BTreeMap<CellName, Place>,
+    pub(crate) places: HashMap<CellName, Place>,
 }

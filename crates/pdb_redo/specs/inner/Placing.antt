@@ -10,10 +10,6 @@ pub record IsInRecord (place : Option Place) (number : ℕ) : Type 0 where
   pub there : place ≡ Some at
   pub here : at.number ≡ number
 
--- the place stays, or there is one of number 0 now where there was none
-abbrev pub GainsName : Option Place → Option Place → Type 0
-GainsName old new = (new ≡ old) ⊎ ((old ≡ None) × (new ≡ Some (record { number = 0; at = 0 })))
-
 -- none of these puts is of the cell
 abbrev pub NonePuts : List Put → CellName → Type 0
 NonePuts puts name = (i : ℕ) (p : Put) → slice_get puts i ≡ Some p → p.name ≡ name → ⊥

@@ -1,8 +1,8 @@
 use Rattle.std.proofs.Common.{◌≡◌, Some, inl, length, refl, arith}
 use Rattle.std.specs.Prelude.{slice_get}
-use Rattle.std.specs.BTreeMap.{get}
+use Rattle.std.specs.HashMap.{get}
 use Rattle.std.proofs.lemmas.Option.{slice_get_read, slice_get_within}
-use Rattle.pdb_cells.specs.Names.{name_cmp}
+use Rattle.pdb_cells.specs.Puts.{same_cell}
 use Rattle.pdb_redo.proofs.BacklogSteps.{drop_one, drops_joined}
 use Rattle.pdb_redo.proofs.places.drop_places.Goals as goal
 
@@ -15,7 +15,7 @@ loop-put-preserved c =
     let here : slice_get c.args.puts.now c.loop-put.put-index ≡ Some put =
     slice_get_read c.args.puts.now (length c.args.puts.now) c.loop-put.put-index put refl c.loop-put-test.true c.put-item.is in
     record {
-      drops = λ q. drops_joined c.args.number (get name_cmp c.args.places.now q) (get name_cmp c.loop-put.places q) (get name_cmp c.drop_place.new.places q)
+      drops = λ q. drops_joined c.args.number (get same_cell c.args.places.now q) (get same_cell c.loop-put.places q) (get same_cell c.drop_place.new.places q)
           (c.loop-put.invariant.drops q) (c.drop_place.ensures.drops q);
       gone = drop_one c.args.puts.now c.args.number c.loop-put.put-index put c.loop-put.places c.drop_place.new.places
           c.loop-put.invariant.gone c.drop_place.ensures.drops here c.drop_place.ensures.gone;

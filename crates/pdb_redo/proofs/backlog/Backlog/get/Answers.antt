@@ -6,7 +6,7 @@ use Rattle.pdb_cells.specs.declared.Put.{Put}
 use Rattle.pdb_redo.specs.Backlogs.{records_in}
 use Rattle.pdb_redo.specs.Places.{newest}
 use Rattle.pdb_redo.specs.declared.queue.Queue.{Queue}
-use Rattle.pdb_redo.proofs.BacklogFound.{found_at, found_none, put_here, unknown_none}
+use Rattle.pdb_redo.proofs.BacklogFound.{found_at, put_here, unknown_none}
 use Rattle.pdb_redo.proofs.backlog.Backlog.get.Goals as goal
 
 pub returns-in_err-place : goal.returns-in_err-place
@@ -15,14 +15,13 @@ returns-in_err-place c =
     ∙ sym (unknown_none c.self.inside.queue.records.items c.self.inside.queue.places c.args.name.now c.self.invariant (sym c.in_err-place.ensures.value))
     ∙ ap (λ (q : Queue). newest (records_in q) c.args.name.now) c.self.view_is
 
-pub returns-then-place-first : goal.returns-then-place-first
-returns-then-place-first c =
+pub overflow_sub-place : goal.overflow_sub-place
+overflow_sub-place c =
     let ws = c.self.inside.queue.records.items in
     let w = c.in_ok-first.first.now in
     let some = c.in_ok-first.ensures.variant.0 refl in
     let first : slice_get ws 0 ≡ Some w = slice_get_read ws (deque_len c.self.inside.queue.records) 0 w c.self.inside.queue.records.ok.0 some c.in_ok-first.ensures.lookup in
-    sym (found_none ws c.self.inside.queue.places c.args.name.now c.in_ok-place.place.now w c.self.invariant (sym c.in_ok-place.ensures.value) first c.if-place-first.true)
-    ∙ ap (λ (q : Queue). newest (records_in q) c.args.name.now) c.self.view_is
+    (found_at ws c.self.inside.queue.places c.args.name.now c.in_ok-place.place.now w c.self.invariant (sym c.in_ok-place.ensures.value) first).from
 
 pub returns-in_err-record : goal.returns-in_err-record
 returns-in_err-record c =
@@ -30,7 +29,7 @@ returns-in_err-record c =
     let w = c.in_ok-first.first.now in
     let some = c.in_ok-first.ensures.variant.0 refl in
     let first : slice_get ws 0 ≡ Some w = slice_get_read ws (deque_len c.self.inside.queue.records) 0 w c.self.inside.queue.records.ok.0 some c.in_ok-first.ensures.lookup in
-    let at = found_at ws c.self.inside.queue.places c.args.name.now c.in_ok-place.place.now w c.self.invariant (sym c.in_ok-place.ensures.value) first c.if-place-first.false in
+    let at = found_at ws c.self.inside.queue.places c.args.name.now c.in_ok-place.place.now w c.self.invariant (sym c.in_ok-place.ensures.value) first in
     let within = slice_get_within ws (c.in_ok-place.place.now.number - w.number) at.waiting at.record_is in
     let long = c.self.inside.queue.records.ok.0 in
     let bad = c.in_err-record.ensures.variant.1 (omega (arith, within, long)) in
@@ -39,7 +38,7 @@ returns-in_err-record c =
 pub bounds-as_slice-place : goal.bounds-as_slice-place
 bounds-as_slice-place c =
     let found = put_here c.self.inside.queue.records.items (deque_len c.self.inside.queue.records) c.self.inside.queue.places c.args.name.now c.in_ok-place.place.now c.in_ok-first.first.now c.in_ok-record.record.now
-    c.self.invariant c.in_ok-place.ensures.value c.self.inside.queue.records.ok.0 (c.in_ok-first.ensures.variant.0 refl) c.in_ok-first.ensures.lookup c.if-place-first.false
+    c.self.invariant c.in_ok-place.ensures.value c.self.inside.queue.records.ok.0 (c.in_ok-first.ensures.variant.0 refl) c.in_ok-first.ensures.lookup
     (c.in_ok-record.ensures.variant.0 refl) c.in_ok-record.ensures.lookup in
     let within = slice_get_within c.in_ok-record.record.now.puts c.in_ok-place.place.now.at found.0 found.1 in
     let same = ap (λ (puts : List Put). length puts) c.as_slice.ensures in
@@ -48,7 +47,7 @@ bounds-as_slice-place c =
 pub offset_bounds-as_slice-place : goal.offset_bounds-as_slice-place
 offset_bounds-as_slice-place c =
     let found = put_here c.self.inside.queue.records.items (deque_len c.self.inside.queue.records) c.self.inside.queue.places c.args.name.now c.in_ok-place.place.now c.in_ok-first.first.now c.in_ok-record.record.now
-    c.self.invariant c.in_ok-place.ensures.value c.self.inside.queue.records.ok.0 (c.in_ok-first.ensures.variant.0 refl) c.in_ok-first.ensures.lookup c.if-place-first.false
+    c.self.invariant c.in_ok-place.ensures.value c.self.inside.queue.records.ok.0 (c.in_ok-first.ensures.variant.0 refl) c.in_ok-first.ensures.lookup
     (c.in_ok-record.ensures.variant.0 refl) c.in_ok-record.ensures.lookup in
     let within = slice_get_within c.in_ok-record.record.now.puts c.in_ok-place.place.now.at found.0 found.1 in
     let same = ap (λ (puts : List Put). length puts) c.as_slice.ensures in
@@ -58,7 +57,7 @@ offset_bounds-as_slice-place c =
 pub returns : goal.returns
 returns c =
     let found = put_here c.self.inside.queue.records.items (deque_len c.self.inside.queue.records) c.self.inside.queue.places c.args.name.now c.in_ok-place.place.now c.in_ok-first.first.now c.in_ok-record.record.now
-    c.self.invariant c.in_ok-place.ensures.value c.self.inside.queue.records.ok.0 (c.in_ok-first.ensures.variant.0 refl) c.in_ok-first.ensures.lookup c.if-place-first.false
+    c.self.invariant c.in_ok-place.ensures.value c.self.inside.queue.records.ok.0 (c.in_ok-first.ensures.variant.0 refl) c.in_ok-first.ensures.lookup
     (c.in_ok-record.ensures.variant.0 refl) c.in_ok-record.ensures.lookup in
     ap Some (c.as_slice-2.ensures
     ∙ ap (λ (p : Put). p.bytes) (ap (λ (puts : List Put). get_or puts c.in_ok-place.place.now.at c.index-as_slice-place.result) c.as_slice.ensures

@@ -1,6 +1,6 @@
-use Rattle.std.proofs.Common.{All, IsSome, List, subst, sym}
-use Rattle.std.specs.BTreeMap.{get}
-use Rattle.pdb_cells.specs.Names.{name_cmp}
+use Rattle.std.proofs.Common.{◌≤◌, List, length, subst, sym}
+use Rattle.std.specs.HashMap.{get, spare}
+use Rattle.pdb_cells.specs.Puts.{same_cell}
 use Rattle.pdb_cells.specs.declared.CellName.{CellName}
 use Rattle.pdb_cells.specs.declared.Put.{Put}
 use Rattle.pdb_redo.specs.Backlogs.{IsNextNumber, records_in}
@@ -13,8 +13,8 @@ use Rattle.pdb_redo.proofs.backlog.Backlog.push.Goals as goal
 
 pub set_places-requires : goal.set_places-requires
 set_places-requires c =
-    subst (λ (puts : List Put). All (λ p. IsSome (get name_cmp c.self.inside.queue.places p.name)) puts) (sym c.as_slice.ensures)
-    (subst (λ (q : Queue). All (λ (p : Put). IsSome (get name_cmp q.places p.name)) c.args.waiting.puts) (sym c.self.view_is) c.requires.room.names)
+    subst (λ (puts : List Put). length puts ≤ spare c.self.inside.queue.places) (sym c.as_slice.ensures)
+    (subst (λ (q : Queue). length c.args.waiting.puts ≤ spare q.places) (sym c.self.view_is) c.requires.room.names)
 
 pub invariant_of-self : goal.invariant_of-self
 invariant_of-self c =
@@ -22,5 +22,5 @@ invariant_of-self c =
     (push_placed c.self.inside.queue.records.items c.args.waiting c.self.inside.queue.places c.set_places.new.places c.self.invariant c.requires.first
     (subst (λ (q : Queue). IsNextNumber (records_in q) c.args.waiting.number) (sym c.self.view_is) c.requires.next)
     c.requires.once
-    (subst (λ (puts : List Put). (name : CellName) → IsSetIn puts c.args.waiting.number name (get name_cmp c.self.inside.queue.places name) (get name_cmp c.set_places.new.places name))
+    (subst (λ (puts : List Put). (name : CellName) → IsSetIn puts c.args.waiting.number name (get same_cell c.self.inside.queue.places name) (get same_cell c.set_places.new.places name))
     c.as_slice.ensures c.set_places.ensures))
