@@ -96,9 +96,9 @@ fn a_value_has_at_most_8388608_bytes(rt: HostRuntime) -> Result<(), Fail> {
 }
 
 // A database over the disk of a new one, whose file 9 or 16 has these bytes at a place, with a commit of the node of key 0.
-fn over(alloc: Global, file: u16, at: u64, bytes: &[u8; 4]) -> Result<Database<MemDisk>, Fail> {
+fn over(alloc: Global, file: u16, at: u16, bytes: &[u8; 4]) -> Result<Database<MemDisk>, Fail> {
     let mut disk = created(alloc, MemDisk::new(alloc))?.into_disk();
-    if disk.write_at(file, at, bytes).is_err() {
+    if disk.write_at(file, u64::from(at), bytes).is_err() {
         return Err(Fail::new("not written"));
     }
     let mut database = opened(alloc, disk)?;

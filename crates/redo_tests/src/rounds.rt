@@ -126,7 +126,7 @@ fn a_failed_write_is_named(rt: HostRuntime) -> Result<(), Fail> {
         return Err(Fail::new("not created"));
     };
     assert_eq!(rt; (redo.head(0)[1], redo.head(1)[1]), (3, 3));
-    let call = redo.calls() + 1;
+    let call = redo.calls().saturating_add(1);
     assert!(rt;
         redo.append(rt.alloc(), 1, one_put(rt.alloc(), 0xab)?)
             .is_err()
