@@ -1,17 +1,10 @@
--- Operations after others, and those of some commits.
+-- Operations of commits after others, and where something holds of one of some items.
 use Rattle.std.proofs.Common.{◌≡◌, ℕ, suc, List, [], ◌∷◌, ◌++◌, refl, subst, ◌∙◌, arith, length-append}
 use Rattle.std.specs.Prelude.{All, Any}
 use Rattle.std.proofs.lemmas.Grind.{flat_map-append}
 use Rattle.std.proofs.lemmas.List.{get_or_append_left}
 use Rattle.sdb_base.specs.Keeping.{Commits, operations}
 use Rattle.sdb_base.specs.declared.op.Op.{Op}
-use Rattle.pdb_column.specs.Maps.{ColumnMap, column_after, column_from}
-
--- operations after others change what the others left
-pub column_from-append : (column : ℕ) (content : ColumnMap) (xs ys : List Op)
-    → column_from column content (xs ++ ys) ≡ column_from column (column_from column content xs) ys
-column_from-append column content [] ys = refl
-column_from-append column content (x ∷ xs) ys = column_from-append column (column_after column content x) xs ys
 
 -- the operations of more commits
 pub operations-append : (g h : Commits) → operations (g ++ h) ≡ operations g ++ operations h

@@ -9,6 +9,7 @@ ghost use Rattle.pdb_disk.specs.Moments.{Moments};
 ghost use Rattle.pdb_model.specs.Recovery.{Row, Safe, TearClear};
 ghost use Rattle.pdb_recover.specs.Answers.{GatesEnd, OpenSays};
 ghost use Rattle.pdb_redo.specs.Answers.{CreateSays};
+ghost use Rattle.pdb_redo.specs.declared.fault.CreateCause.{CreateCause};
 ghost use Rattle.pdb_redo.specs.Creating.{HasNoGate, IsNoneOrNew};
 ghost use Rattle.pdb_redo.specs.Reaches.{reach_of};
 ghost use Rattle.pdb_pipe.specs.inner.OpenOnce.{never_fall_once, storable_once};
@@ -52,8 +53,11 @@ impl<D: Disk> Database<D> {
         ensures pipeline { IfOk result (λ db. pipeline_of db ≡ pipeline_at 0 (bases_of db)) }
         ensures bases { IfOk result (λ db. (column : ℕ) → column ≤ 1 → bases_of db column ≡ base) }
         ensures running { IfOk result (λ db. db.redo.stopped ≡ None) }
+        ensures untouched { IfErr result (λ e. e.fault ≡ CreateCause.Occupied
+            → (D.clock e.disk ≡ D.clock disk) × (D.past e.disk ≡ D.past disk)) }
         ensures any_moment { IsTrue (D.tells disk) → ((x : Image) → IsImage (D.past disk (D.clock disk)) x → HasNoGate x)
-            → Moments (D.clock disk) (D.clock (disk_of_creating result)) (D.past disk) (D.past (disk_of_creating result)) (IsNoneOrNew base) }
+            → Moments (D.clock disk) (D.clock (disk_of_creating result)) (D.past disk) (D.past (disk_of_creating result))
+            (IsNoneOrNew base) }
         ensures free { IsTrue (D.tells disk) → OnOk result (HasNoGate (reads_of (D.past disk (D.clock disk)))) }
         ensures causes { IsTrue (D.tells disk) → IfErr result (λ e. CreateSays (reads_of (D.past disk (D.clock disk))) e.fault) }
         ensures told { IsTrue (D.tells disk) → IsTrue (D.tells (disk_of_creating result)) }

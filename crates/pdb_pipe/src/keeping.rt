@@ -44,7 +44,7 @@ impl<D: Disk> Keeper for Database<D> {
     /// The bytes of a node: those in the queue, else those of the cells after all records. A node without references may still
     /// be there. It is answered also after a write, cut or sync failed.
     fn node(&mut self, key: &NodeHash) -> Result<Option<Bytes>, KeepFault>
-        ensures found { MatchResult result (λ r. self.new.redo.reads ≤ self.old.redo.reads + reads_for r)
+        ensures cost { MatchResult result (λ r. self.new.redo.reads ≤ self.old.redo.reads + reads_for r)
             (λ e. self.new.redo.reads ≤ self.old.redo.reads + most_reads) }
         ensures answer { (commits : Commits) → StandsFor D.tells D.clock D.past self.old commits → NodesAgree commits key.now.0
             → IfOk result (IsNodeAnswer commits key.now.0 (node_under (operations commits) key.now.0)) }
@@ -66,7 +66,7 @@ impl<D: Disk> Keeper for Database<D> {
     /// answered also after a write, cut or sync failed.
     fn meta(&mut self, key: &[u8]) -> Result<Option<Bytes>, KeepFault>
         requires { length key.now ≤ most_in_plain_key }
-        ensures found { MatchResult result (λ r. self.new.redo.reads ≤ self.old.redo.reads + reads_for r)
+        ensures cost { MatchResult result (λ r. self.new.redo.reads ≤ self.old.redo.reads + reads_for r)
             (λ e. self.new.redo.reads ≤ self.old.redo.reads + most_reads) }
         ensures answer { (commits : Commits) → StandsFor D.tells D.clock D.past self.old commits → HashesApart commits key.now
             → IfOk result (IsMetaAnswer (meta_under (operations commits) key.now)) }
@@ -90,9 +90,10 @@ impl<D: Disk> Keeper for Database<D> {
     fn commit(&mut self, ops: Ops) -> Result<u64, KeepFault>
         requires { All HasShortKey ops }
         ensures stopped { (call : ℕ) → self.old.redo.stopped ≡ Some call → result ≡ Err (KeepFault.Stopped call) }
-        ensures end { self.old.redo.stopped ≡ None → self.old.accepted ≡ 2 ^ 64 - 1 → result ≡ Err (KeepFault.NumbersEnd Counter.Commits) }
-        ensures too_long { (len : ℕ) → self.old.redo.stopped ≡ None → self.old.accepted ≢ 2 ^ 64 - 1 → first_too_long ops ≡ Some len
-            → result ≡ Err (KeepFault.ValueTooLong len) }
+        ensures end { self.old.redo.stopped ≡ None → self.old.accepted ≡ 2 ^ 64 - 1
+            → result ≡ Err (KeepFault.NumbersEnd Counter.Commits) }
+        ensures too_long { (len : ℕ) → self.old.redo.stopped ≡ None → self.old.accepted ≢ 2 ^ 64 - 1
+            → first_too_long ops ≡ Some len → result ≡ Err (KeepFault.ValueTooLong len) }
         ensures memory { self.old.redo.stopped ≡ None → self.old.accepted ≢ 2 ^ 64 - 1 → first_too_long ops ≡ None
             → IfErr result (λ e. e ≡ KeepFault.OutOfMemory) }
         ensures same { OnErr result (self.new ≡ self.old) }

@@ -64,7 +64,8 @@ impl<D: Disk> Stages for Database<D> {
     fn log(&mut self) -> Result<Logged, KeepFault>
         ensures steps { IfOk result (λ r. TakesStep D.tells D.clock D.past self.old (answers.Logged r) self.new) }
         ensures unchanged { OnErr result (pipeline_of self.new ≡ pipeline_of self.old) }
-        ensures stands { (commits : Commits) → StandsFor D.tells D.clock D.past self.old commits → StandsFor D.tells D.clock D.past self.new commits }
+        ensures stands { (commits : Commits) → StandsFor D.tells D.clock D.past self.old commits
+            → StandsFor D.tells D.clock D.past self.new commits }
         ensures later { (commits : Commits) → StandsFor D.tells D.clock D.past self.old commits
             → ComesAfterWith D.clock D.past D.fault_count self.old commits self.new commits }
         ensures after { ComesAfter D.clock D.past D.fault_count self.old self.new }
@@ -90,7 +91,8 @@ impl<D: Disk> Stages for Database<D> {
     fn flush(&mut self) -> Result<u64, KeepFault>
         ensures steps { IfOk result (λ r. TakesStep D.tells D.clock D.past self.old (answers.Flushed r) self.new) }
         ensures unchanged { OnErr result (pipeline_of self.new ≡ pipeline_of self.old) }
-        ensures stands { (commits : Commits) → StandsFor D.tells D.clock D.past self.old commits → StandsFor D.tells D.clock D.past self.new commits }
+        ensures stands { (commits : Commits) → StandsFor D.tells D.clock D.past self.old commits
+            → StandsFor D.tells D.clock D.past self.new commits }
         ensures later { (commits : Commits) → StandsFor D.tells D.clock D.past self.old commits
             → ComesAfterWith D.clock D.past D.fault_count self.old commits self.new commits }
         ensures after { ComesAfter D.clock D.past D.fault_count self.old self.new }
@@ -112,7 +114,8 @@ impl<D: Disk> Stages for Database<D> {
     fn enact(&mut self) -> Result<Option<u64>, KeepFault>
         ensures steps { IfOk result (λ r. TakesStep D.tells D.clock D.past self.old (answers.Enacted r) self.new) }
         ensures unchanged { OnErr result (pipeline_of self.new ≡ pipeline_of self.old) }
-        ensures stands { (commits : Commits) → StandsFor D.tells D.clock D.past self.old commits → StandsFor D.tells D.clock D.past self.new commits }
+        ensures stands { (commits : Commits) → StandsFor D.tells D.clock D.past self.old commits
+            → StandsFor D.tells D.clock D.past self.new commits }
         ensures later { (commits : Commits) → StandsFor D.tells D.clock D.past self.old commits
             → ComesAfterWith D.clock D.past D.fault_count self.old commits self.new commits }
         ensures after { ComesAfter D.clock D.past D.fault_count self.old self.new }
@@ -134,7 +137,8 @@ impl<D: Disk> Stages for Database<D> {
     fn clean(&mut self) -> Result<u64, KeepFault>
         ensures steps { IfOk result (λ r. TakesStep D.tells D.clock D.past self.old (answers.Cleaned r) self.new) }
         ensures unchanged { OnErr result (pipeline_of self.new ≡ pipeline_of self.old) }
-        ensures stands { (commits : Commits) → StandsFor D.tells D.clock D.past self.old commits → StandsFor D.tells D.clock D.past self.new commits }
+        ensures stands { (commits : Commits) → StandsFor D.tells D.clock D.past self.old commits
+            → StandsFor D.tells D.clock D.past self.new commits }
         ensures later { (commits : Commits) → StandsFor D.tells D.clock D.past self.old commits
             → ComesAfterWith D.clock D.past D.fault_count self.old commits self.new commits }
         ensures after { ComesAfter D.clock D.past D.fault_count self.old self.new }
@@ -160,7 +164,8 @@ impl<D: Disk> Stages for Database<D> {
     fn grow(&mut self) -> Result<Grown, KeepFault>
         ensures steps { IfOk result (λ r. TakesStep D.tells D.clock D.past self.old (answers.Grown r) self.new) }
         ensures unchanged { OnErr result (pipeline_of self.new ≡ pipeline_of self.old) }
-        ensures stands { (commits : Commits) → StandsFor D.tells D.clock D.past self.old commits → StandsFor D.tells D.clock D.past self.new commits }
+        ensures stands { (commits : Commits) → StandsFor D.tells D.clock D.past self.old commits
+            → StandsFor D.tells D.clock D.past self.new commits }
         ensures later { (commits : Commits) → StandsFor D.tells D.clock D.past self.old commits
             → ComesAfterWith D.clock D.past D.fault_count self.old commits self.new commits }
         ensures after { ComesAfter D.clock D.past D.fault_count self.old self.new }

@@ -1,4 +1,4 @@
-ghost use Rattle.std.specs.Prelude.{◌≡◌, ◌≤◌, ◌<◌, ◌∷◌, [], ℕ, true, false, IfOk, IsTrue, IfErr, MatchResult, None, OnOk, OnErr, is_err};
+ghost use Rattle.std.specs.Prelude.{◌≡◌, ◌≤◌, ◌<◌, ◌∷◌, [], ℕ, true, false, IfOk, IsTrue, IfErr, IsErrOf, MatchResult, None, OnOk, OnErr, is_err};
 ghost use Rattle.sdb_io.specs.Faults.{CountsFault};
 ghost use Rattle.pdb_cells.specs.Sizes.{head_file};
 ghost use Rattle.pdb_disk.specs.Files.{Image, IsImage, reads_of};
@@ -150,6 +150,7 @@ fn create_files<D: Disk>(disk: &mut D, base: u8) -> Result<(), CreateCause>
     ensures created { IsTrue (D.tells disk.old) → OnOk result (IsRecovered (D.past disk.new (D.clock disk.new)) first_gate (new_row base)) }
     ensures free { IsTrue (D.tells disk.old) → OnOk result (HasNoGate (reads_of (D.past disk.old (D.clock disk.old)))) }
     ensures causes { IsTrue (D.tells disk.old) → IfErr result (CreateSays (reads_of (D.past disk.old (D.clock disk.old)))) }
+    ensures untouched { IsErrOf result CreateCause.Occupied → (D.clock disk.new ≡ D.clock disk.old) × (D.past disk.new ≡ D.past disk.old) }
     ensures told { IsTrue (D.tells disk.old) → IsTrue (D.tells disk.new) }
     ensures counted { MatchResult result (λ _. D.fault_count disk.new ≡ D.fault_count disk.old)
         (λ e. CountsFault (is_create_disk e) (D.fault_count disk.old) (D.fault_count disk.new)) }
@@ -168,7 +169,7 @@ impl<D: Disk> Redo<D> {
     ghost use Rattle.pdb_redo.specs.Standing.{IsStanding};
 
     /// Makes a database without keys on a disk; both columns have this base, at most 16. `Occupied` comes exactly where a gate
-    /// slot is whole, after a fault of the disk that reads them.
+    /// slot is whole, after a fault of the disk that reads them, and then nothing was changed.
     pub fn create(alloc: Global, disk: D, base: u8) -> Result<Redo<D>, CreateFault<D>>
         requires { base ≤ 16 }
         ensures any_moment { IsTrue (D.tells disk) → ((x : Image) → IsImage (D.past disk (D.clock disk)) x → HasNoGate x)
@@ -176,6 +177,8 @@ impl<D: Disk> Redo<D> {
         ensures created { IsTrue (D.tells disk) → IfOk result (λ r. IsStanding D.tells D.clock D.past r (new_row base ∷ []) 0) }
         ensures free { IsTrue (D.tells disk) → OnOk result (HasNoGate (reads_of (D.past disk (D.clock disk)))) }
         ensures causes { IsTrue (D.tells disk) → IfErr result (λ e. CreateSays (reads_of (D.past disk (D.clock disk))) e.fault) }
+        ensures untouched { IfErr result (λ e. e.fault ≡ CreateCause.Occupied
+            → (D.clock e.disk ≡ D.clock disk) × (D.past e.disk ≡ D.past disk)) }
         ensures reach { IfOk result (λ r. reach_of r ≡ reach_at 0) }
         ensures running { IfOk result (λ r. r.stopped ≡ None) }
         ensures told { IsTrue (D.tells disk) → IsTrue (D.tells (created_disk result)) }

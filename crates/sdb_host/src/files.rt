@@ -1,4 +1,4 @@
-ghost use Rattle.std.specs.Prelude.{◌≡◌, ◌≤◌, ◌+◌, ◌^◌, length, string_bytes, is_some, IsTrue, IfOk, OnOk};
+ghost use Rattle.std.specs.Prelude.{◌≡◌, ◌≤◌, ◌+◌, ◌^◌, ℕ, None, length, string_bytes, is_some, IsTrue, IfOk, OnOk};
 ghost use Rattle.std.specs.Ordering.{nat_cmp};
 ghost use Rattle.std.specs.BTreeMap.{get};
 ghost use Rattle.sdb_host.specs.Names.{file_name};
@@ -13,7 +13,7 @@ use std::rt::Files;
 
 /// The files `sdb-N` of the working folder, each opened at its first use and kept open.
 #[derive(Drop)]
-pub struct OpenFiles<R: Files<File = File> + Drop> {
+pub(crate) struct OpenFiles<R: Files<File = File> + Drop> {
     rt: R,
     alloc: Global,
     handles: BTreeMap<u16, File>,
@@ -99,7 +99,9 @@ fn write_bytes(file: &File, at: u64, bytes: &[u8]) -> io::Result<()>
 
 impl<R: Files<File = File> + Drop> OpenFiles<R> {
     /// No file is opened yet.
-    pub fn new(alloc: Global, rt: R) -> OpenFiles<R> {
+    pub(crate) fn new(alloc: Global, rt: R) -> OpenFiles<R>
+        ensures none_open { (file : ℕ) → get nat_cmp result.handles file ≡ None }
+    {
         OpenFiles {
             rt,
             alloc,
@@ -123,7 +125,7 @@ impl<R: Files<File = File> + Drop> OpenFiles<R> {
     }
 
     /// Fills `into` with the bytes of a file from `at` on, with zeros past its end.
-    pub fn read(&mut self, file: u16, at: u64, into: &mut [u8]) -> io::Result<()>
+    pub(crate) fn read(&mut self, file: u16, at: u64, into: &mut [u8]) -> io::Result<()>
         requires { at + length into.old ≤ 2 ^ 63 }
     {
         self.ready(file)?;
@@ -134,7 +136,7 @@ impl<R: Files<File = File> + Drop> OpenFiles<R> {
     }
 
     /// Writes the bytes to a file from `at` on. After an `Err` some of them may be written.
-    pub fn write(&mut self, file: u16, at: u64, bytes: &[u8]) -> io::Result<()>
+    pub(crate) fn write(&mut self, file: u16, at: u64, bytes: &[u8]) -> io::Result<()>
         requires { at + length bytes.now ≤ 2 ^ 63 }
     {
         self.ready(file)?;
@@ -145,7 +147,7 @@ impl<R: Files<File = File> + Drop> OpenFiles<R> {
     }
 
     /// Cuts a file to no bytes.
-    pub fn cut(&mut self, file: u16) -> io::Result<()> {
+    pub(crate) fn cut(&mut self, file: u16) -> io::Result<()> {
         self.ready(file)?;
         match self.handles.get(&file) {
             Some(handle) => handle.set_len(0),
@@ -154,7 +156,7 @@ impl<R: Files<File = File> + Drop> OpenFiles<R> {
     }
 
     /// Syncs a file, and the folder where a file was opened since the folder's last sync.
-    pub fn sync(&mut self, file: u16) -> io::Result<()> {
+    pub(crate) fn sync(&mut self, file: u16) -> io::Result<()> {
         self.ready(file)?;
         match self.handles.get(&file) {
             Some(handle) => handle.sync_all()?,
