@@ -23,7 +23,7 @@ pub trait Disk {
     ghost use Rattle.std.specs.Prelude.{Bool, ℕ};
     ghost use Rattle.pdb_disk.specs.Files.{Files};
 
-    // it tells its content; where it does, it goes on to
+    // whether it tells its content, which no call changes
     ghost tells: { Self → Bool };
 
     // how many writes, cuts and syncs there were; at 2^64 - 1 the clock stops
@@ -45,6 +45,7 @@ pub trait Disk {
         ensures time { clock self.new ≡ clock self.old }
         ensures unchanged { past self.new ≡ past self.old }
         ensures told { IsTrue (tells self.old) → IsTrue (tells self.new) }
+        ensures untold { IsTrue (tells self.new) → IsTrue (tells self.old) }
         ensures fault { IfErr result (λ e. e ≡ DiskFault.Read) }
         ensures counted { CountsFault (is_err result) (fault_count self.old) (fault_count self.new) }
         ensures faults { fault_count self.old ≤ fault_count self.new }
@@ -63,6 +64,7 @@ pub trait Disk {
         ensures failed { OnErr result (IsTrue (tells self.old)
             → MayBegin file (step.Write at bytes.now) (past self.old (clock self.old)) (past self.new (clock self.new))) }
         ensures told { IsTrue (tells self.old) → IsTrue (tells self.new) }
+        ensures untold { IsTrue (tells self.new) → IsTrue (tells self.old) }
         ensures fault { IfErr result (λ e. e ≡ DiskFault.Write) }
         ensures counted { CountsFault (is_err result) (fault_count self.old) (fault_count self.new) }
         ensures reads { read_count self.new ≡ read_count self.old };
@@ -78,6 +80,7 @@ pub trait Disk {
         ensures failed { OnErr result (IsTrue (tells self.old)
             → MayBegin file step.Cut (past self.old (clock self.old)) (past self.new (clock self.new))) }
         ensures told { IsTrue (tells self.old) → IsTrue (tells self.new) }
+        ensures untold { IsTrue (tells self.new) → IsTrue (tells self.old) }
         ensures fault { IfErr result (λ e. e ≡ DiskFault.Cut) }
         ensures counted { CountsFault (is_err result) (fault_count self.old) (fault_count self.new) }
         ensures reads { read_count self.new ≡ read_count self.old };
@@ -91,6 +94,7 @@ pub trait Disk {
         ensures failed { OnErr result (IsTrue (tells self.old)
             → past self.new (clock self.new) ≡ past self.old (clock self.old)) }
         ensures told { IsTrue (tells self.old) → IsTrue (tells self.new) }
+        ensures untold { IsTrue (tells self.new) → IsTrue (tells self.old) }
         ensures fault { IfErr result (λ e. e ≡ DiskFault.Sync) }
         ensures counted { CountsFault (is_err result) (fault_count self.old) (fault_count self.new) }
         ensures reads { read_count self.new ≡ read_count self.old };

@@ -44,6 +44,9 @@ pub trait Keeper {
     // the second is what calls made of the first, whatever they stand for
     ghost comes_after: { Self → Self → Type 0 };
 
+    // the second is what look-ups and commits made of the first: the outside was read, and nothing else
+    ghost only_reads: { Self → Self → Type 0 };
+
     // the second with its commits is what calls made of the first with its own
     ghost later: { Self → Commits → Self → Commits → Type 0 };
 
@@ -54,6 +57,7 @@ pub trait Keeper {
         ensures stands { (commits : Commits) → stands self.old commits → stands self.new commits }
         ensures later { (commits : Commits) → stands self.old commits → later self.old commits self.new commits }
         ensures after { comes_after self.old self.new }
+        ensures outside { only_reads self.old self.new }
         ensures pipeline { pipeline self.new ≡ pipeline self.old }
         ensures counted { CountsFault (disk_failed result) (fault_count self.old) (fault_count self.new) }
         ensures cause { IfErr result (IsCause (due self.new calls.Node)) }
@@ -68,6 +72,7 @@ pub trait Keeper {
         ensures stands { (commits : Commits) → stands self.old commits → stands self.new commits }
         ensures later { (commits : Commits) → stands self.old commits → later self.old commits self.new commits }
         ensures after { comes_after self.old self.new }
+        ensures outside { only_reads self.old self.new }
         ensures pipeline { pipeline self.new ≡ pipeline self.old }
         ensures counted { CountsFault (disk_failed result) (fault_count self.old) (fault_count self.new) }
         ensures cause { IfErr result (IsCause (due self.new calls.Meta)) }
@@ -83,6 +88,7 @@ pub trait Keeper {
         ensures refused { (commits : Commits) → stands self.old commits → OnErr result (stands self.new commits) }
         ensures refused_later { (commits : Commits) → stands self.old commits → OnErr result (later self.old commits self.new commits) }
         ensures after { comes_after self.old self.new }
+        ensures outside { only_reads self.old self.new }
         ensures number { IfOk result (λ n. n ≡ (pipeline self.old).numbers.accepted + 1) }
         ensures pipeline { OnOk result (pipeline self.new ≡ with_commit (pipeline self.old)) }
         ensures unchanged { OnErr result (pipeline self.new ≡ pipeline self.old) }
@@ -108,6 +114,13 @@ pub trait Keeper {
 
     // the counts never fall
     ghost rises: { (a b : Self) → comes_after a b → (fault_count a ≤ fault_count b) × (read_count a ≤ read_count b) };
+
+    // look-ups and commits are calls, none are such, and such after such are such
+    ghost only_after: { (a b : Self) → only_reads a b → comes_after a b };
+
+    ghost only_itself: { (a : Self) → only_reads a a };
+
+    ghost only_on: { (a b c : Self) → only_reads a b → only_reads b c → only_reads a c };
 
     // the same of keepers with their commits
     ghost later_itself: { (a : Self) (g : Commits) → stands a g → later a g a g };

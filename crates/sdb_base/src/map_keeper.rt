@@ -82,6 +82,8 @@ impl Keeper for MapKeeper {
 
     ghost comes_after = { NeverFalls };
 
+    ghost only_reads = { NeverFalls };
+
     ghost later = { AddsCommits };
 
     /// The bytes of a node; a node without references isn't there. A call that is to fail answers `Disk`, any other that
@@ -95,6 +97,7 @@ impl Keeper for MapKeeper {
         ensures pipeline { kept_pipeline self.new ≡ kept_pipeline self.old }
         ensures cause { IfErr result (IsCause (λ e. ⊥)) }
         ensures after { NeverFalls self.old self.new }
+        ensures outside { NeverFalls self.old self.new }
         ensures counted { CountsFault (disk_failed result) (failed_keeper_calls self.old) (failed_keeper_calls self.new) }
         ensures fails { IsTrue (disk_failed result) ↔ FailsNext self.old }
         ensures call { CountsCall self.old self.new }
@@ -117,6 +120,7 @@ impl Keeper for MapKeeper {
         ensures pipeline { kept_pipeline self.new ≡ kept_pipeline self.old }
         ensures cause { IfErr result (IsCause (λ e. ⊥)) }
         ensures after { NeverFalls self.old self.new }
+        ensures outside { NeverFalls self.old self.new }
         ensures counted { CountsFault (disk_failed result) (failed_keeper_calls self.old) (failed_keeper_calls self.new) }
         ensures fails { IsTrue (disk_failed result) ↔ FailsNext self.old }
         ensures call { CountsCall self.old self.new }
@@ -148,6 +152,7 @@ impl Keeper for MapKeeper {
         ensures short { OnOk result (first_too_long ops ≡ None) }
         ensures long { IfErr result (IsRefusalOf ops) }
         ensures after { NeverFalls self.old self.new }
+        ensures outside { NeverFalls self.old self.new }
         ensures counted { CountsFault (disk_failed result) (failed_keeper_calls self.old) (failed_keeper_calls self.new) }
         ensures fails { IsTrue (disk_failed result) ↔ FailsNext self.old }
         ensures call { CountsCall self.old self.new }
@@ -182,6 +187,12 @@ impl Keeper for MapKeeper {
     ghost after_on = { λ a b c p q. (Prim.search (rules, p, q), Prim.search (rules, p, q)) };
 
     ghost rises = { λ a b p. (p.0, Prim.search rules) };
+
+    ghost only_after = { λ a b p. p };
+
+    ghost only_itself = { λ a. (Prim.search rules, Prim.search rules) };
+
+    ghost only_on = { λ a b c p q. (Prim.search (rules, p, q), Prim.search (rules, p, q)) };
 
     ghost later_itself = { λ a g stands. ((Prim.search rules, Prim.search rules), ([], ends_here g)) };
 
