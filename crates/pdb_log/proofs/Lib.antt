@@ -8,6 +8,7 @@ pub mod Rows
 pub mod Ledgers
 pub mod Passing
 pub mod Logs
+pub mod Tallies
 pub mod Syncs
 pub mod Turns
 pub mod Beside

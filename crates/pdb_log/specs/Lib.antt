@@ -3,3 +3,4 @@ pub mod Answers
 pub mod Standing
 pub mod Recovered
 pub mod Elapsed
+pub mod Tallies

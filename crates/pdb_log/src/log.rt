@@ -66,6 +66,7 @@ impl<D: Disk> Log<D> {
     ghost use Rattle.pdb_log.specs.Ledger.{AreRows, IsEmptyFile, IsKeptGate, IsNextGate, IsPassed, Ledger, records_flushed, appended, cleared, emptied, file_synced, files_cleared, files_synced, fresh_ledger, passed, row_after};
     ghost use Rattle.pdb_log.specs.Elapsed.{TimeGoesOn};
     ghost use Rattle.pdb_log.specs.Standing.{IsCellAt, IsLog, LeavesCells, end_of_log, next_gate, next_in_ring, next_record, turned, turns};
+    ghost use Rattle.pdb_log.specs.Tallies.{IsTally, Tally, with_bytes, with_gate};
 
     /// The log after a gate that is in force, where all log files are empty.
     pub fn begin(disk: D, gate: GateSlot) -> Log<D>
@@ -76,6 +77,7 @@ impl<D: Disk> Log<D> {
             → AreRows (row ∷ []) 0 (D.past disk (D.clock disk)) (fresh_ledger gate)
             → IsLog D.tells D.clock D.past result (fresh_ledger gate) (row ∷ []) 0 }
         ensures disk { result.disk ≡ disk }
+        ensures tally { IsTally result (record { records = gate.number; gates = gate.sequence; bytes = 0 }) }
     {
         Log {
             disk,
@@ -114,6 +116,9 @@ impl<D: Disk> Log<D> {
         ensures bytes_end { IsErrOf result (LogFault.NumbersEnd Counter.LogBytes) ↔ ((self.old.number ≢ 2 ^ 64 - 1)
             × (most_in_log < end_of_log self.old + length (record_bytes (next_record self.old commits puts.now)))) }
         ensures ends { (which : Counter) → IsErrOf result (LogFault.NumbersEnd which) → (which ≡ Counter.Records) ⊎ (which ≡ Counter.LogBytes) }
+        ensures tally { (t : Tally) → IsTally self.old t
+            → OnOk result (IsTally self.new (with_bytes t (length (record_bytes (next_record self.old commits puts.now))))) }
+        ensures one_call { OnOk result (D.clock self.new.disk ≡ D.clock self.old.disk + 1) }
         ensures aside { LeavesCells D.tells D.clock D.past self.old.disk self.new.disk }
         ensures goes_on { TimeGoesOn D.clock D.past self.old.disk self.new.disk }
         ensures counted { CountsFault (log_disk_fails result) (D.fault_count self.old.disk) (D.fault_count self.new.disk) }
@@ -160,6 +165,7 @@ impl<D: Disk> Log<D> {
         ensures disk { self.new.disk ≡ self.old.disk }
         ensures number { self.new.number ≡ self.old.number }
         ensures stays { turns self.old ≡ false → self.new ≡ self.old }
+        ensures tally { (t : Tally) → IsTally self.old t → IsTally self.new t }
     {
         let next = self.file.next();
         if self.ends[self.file.number as usize] >= FULL && self.ends[next.number as usize] == 0 {
@@ -175,6 +181,7 @@ impl<D: Disk> Log<D> {
             → OnOk result (IsLog D.tells D.clock D.past self.new (file_synced l file) rows f) }
         ensures any_moment { (l : Ledger) → (rows : List Row) → (f : ℕ) → IsLog D.tells D.clock D.past self.old l rows f
             → Moments (D.clock self.old.disk) (D.clock self.new.disk) (D.past self.old.disk) (D.past self.new.disk) (Safe rows f) }
+        ensures tally { (t : Tally) → IsTally self.old t → IsTally self.new t }
         ensures aside { LeavesCells D.tells D.clock D.past self.old.disk self.new.disk }
         ensures goes_on { TimeGoesOn D.clock D.past self.old.disk self.new.disk }
         ensures counted { CountsFault (is_err result) (D.fault_count self.old.disk) (D.fault_count self.new.disk) }
@@ -196,6 +203,7 @@ impl<D: Disk> Log<D> {
         ensures any_moment { (l : Ledger) → (rows : List Row) → (f : ℕ) → IsLog D.tells D.clock D.past self.old l rows f
             → Moments (D.clock self.old.disk) (D.clock self.new.disk) (D.past self.old.disk) (D.past self.new.disk) (Safe rows f) }
         ensures idle { slice_index self.old.ends file ≤ slice_index self.old.synced file → self.new ≡ self.old }
+        ensures tally { (t : Tally) → IsTally self.old t → IsTally self.new t }
         ensures aside { LeavesCells D.tells D.clock D.past self.old.disk self.new.disk }
         ensures goes_on { TimeGoesOn D.clock D.past self.old.disk self.new.disk }
         ensures counted { CountsFault (is_err result) (D.fault_count self.old.disk) (D.fault_count self.new.disk) }
@@ -215,6 +223,7 @@ impl<D: Disk> Log<D> {
             → Moments (D.clock self.old.disk) (D.clock self.new.disk) (D.past self.old.disk) (D.past self.new.disk) (Safe rows f) }
         ensures idle { (l : Ledger) → (rows : List Row) → (f : ℕ) → IsLog D.tells D.clock D.past self.old l rows f
             → ((j : ℕ) → IsLogFile j → (l.segments j).pending ≡ []) → self.new ≡ self.old }
+        ensures tally { (t : Tally) → IsTally self.old t → IsTally self.new t }
         ensures aside { LeavesCells D.tells D.clock D.past self.old.disk self.new.disk }
         ensures goes_on { TimeGoesOn D.clock D.past self.old.disk self.new.disk }
         ensures counted { CountsFault (is_err result) (D.fault_count self.old.disk) (D.fault_count self.new.disk) }
@@ -237,6 +246,7 @@ impl<D: Disk> Log<D> {
             → IsNextGate rows f (D.past self.old.disk (D.clock self.old.disk)) l g dropped flushed
             → Moments (D.clock self.old.disk) (D.clock self.new.disk) (D.past self.old.disk) (D.past self.new.disk) (Safe rows f) }
         ensures number { self.new.number ≡ self.old.number }
+        ensures tally { (t : Tally) → IsTally self.old t → g.sequence ≤ t.gates → IsTally self.new t }
         ensures aside { LeavesCells D.tells D.clock D.past self.old.disk self.new.disk }
         ensures goes_on { TimeGoesOn D.clock D.past self.old.disk self.new.disk }
         ensures gate { OnOk result (self.new.gate ≡ g) }
@@ -268,6 +278,7 @@ impl<D: Disk> Log<D> {
             → IsPassed (l.segments file) l.gate.number
             → Moments (D.clock self.old.disk) (D.clock self.new.disk) (D.past self.old.disk) (D.past self.new.disk) (Safe rows f) }
         ensures number { self.new.number ≡ self.old.number }
+        ensures tally { (t : Tally) → IsTally self.old t → IsTally self.new t }
         ensures aside { LeavesCells D.tells D.clock D.past self.old.disk self.new.disk }
         ensures goes_on { TimeGoesOn D.clock D.past self.old.disk self.new.disk }
         ensures gate { self.new.gate ≡ self.old.gate }
@@ -295,6 +306,7 @@ impl<D: Disk> Log<D> {
         ensures any_moment { (l : Ledger) → (rows : List Row) → (f : ℕ) → IsLog D.tells D.clock D.past self.old l rows f
             → Moments (D.clock self.old.disk) (D.clock self.new.disk) (D.past self.old.disk) (D.past self.new.disk) (Safe rows f) }
         ensures number { self.new.number ≡ self.old.number }
+        ensures tally { (t : Tally) → IsTally self.old t → IsTally self.new t }
         ensures aside { LeavesCells D.tells D.clock D.past self.old.disk self.new.disk }
         ensures goes_on { TimeGoesOn D.clock D.past self.old.disk self.new.disk }
         ensures gate { self.new.gate ≡ self.old.gate }
@@ -320,6 +332,7 @@ impl<D: Disk> Log<D> {
             → IsLog D.tells D.clock D.past self.old l rows f
             → IsNextGate rows f (D.past self.old.disk (D.clock self.old.disk)) l (next_gate self.old number commits) dropped flushed
             → Moments (D.clock self.old.disk) (D.clock self.new.disk) (D.past self.old.disk) (D.past self.new.disk) (Safe rows f) }
+        ensures tally { (t : Tally) → IsTally self.old t → IsTally self.new (with_gate t) }
         ensures aside { LeavesCells D.tells D.clock D.past self.old.disk self.new.disk }
         ensures goes_on { TimeGoesOn D.clock D.past self.old.disk self.new.disk }
         ensures gate { OnOk result (self.new.gate ≡ next_gate self.old number commits) }
@@ -348,6 +361,7 @@ impl<D: Disk> Log<D> {
         ensures time { D.clock self.new.disk ≡ D.clock self.old.disk }
         ensures unchanged { D.past self.new.disk ≡ D.past self.old.disk }
         ensures told { IsTrue (D.tells self.old.disk) → IsTrue (D.tells self.new.disk) }
+        ensures untold { IsTrue (D.tells self.new.disk) → IsTrue (D.tells self.old.disk) }
         ensures fault { IfErr result (λ e. e ≡ DiskFault.Read) }
         ensures rest { self.new ≡ record self.old { disk = self.new.disk } }
         ensures counted { CountsFault (is_err result) (D.fault_count self.old.disk) (D.fault_count self.new.disk) }

@@ -1,5 +1,5 @@
 -- What a layer above cites: reads keep what a redo stands for, and what it stands for has a last row.
-use Rattle.std.proofs.Common.{◌≡◌, ℕ, ◌+◌, ◌-◌, List, ◌++◌, length, take, drop, None, Some, sym, ◌∙◌, ap, ap₂, arith}
+use Rattle.std.proofs.Common.{◌≡◌, ◌≤◌, ℕ, ◌+◌, ◌-◌, List, ◌++◌, length, take, drop, None, Some, sym, ◌∙◌, ap, ap₂, arith}
 use Rattle.std.specs.Prelude.{Bool, IsTrue, slice_get}
 use Rattle.pdb_disk.specs.Files.{Files}
 use Rattle.pdb_log.specs.Standing.{IsLog}
@@ -35,6 +35,28 @@ module _ {D : Type 0} (tells : D → Bool) (clock : D → ℕ) (past : D → ℕ
   pub standing_runs : (redo : Redo D) (rows : List Row) (f : ℕ) → IsStanding tells clock past redo rows f → redo.stopped ≡ None
   standing_runs redo rows f is = is.1.running
 
+  -- two that differ in no more than their disks and counts, and whose disks have the same past
+  module _ (a b : Redo D) (log : b.log ≡ record a.log { disk = b.log.disk }) (rest : b ≡ record a { log = b.log; reads = b.reads })
+      (time : clock b.log.disk ≡ clock a.log.disk) (unchanged : past b.log.disk ≡ past a.log.disk)
+      (told : IsTrue (tells a.log.disk) → IsTrue (tells b.log.disk)) where
+    standing_alike : (rows : List Row) (f : ℕ) → IsStanding tells clock past a rows f → IsStanding tells clock past b rows f
+    standing_alike rows f is = (
+      is.0,
+      kept_redo tells clock past a b is.0 rows f is.1 files
+          (ap (λ (r : Redo D). records_in r.backlog) rest) (ap (λ (r : Redo D). r.heads) rest)
+          (ap (λ (r : Redo D). r.enacted) rest) (ap (λ (r : Redo D). r.written) rest) (ap (λ (r : Redo D). r.stopped) rest)
+          stands (ap (λ (r : Redo D). r.appended) rest) (ap (λ (r : Redo D). r.flushed) rest),
+    )
+      where
+        files : (j : ℕ) → 9 ≤ j → past b.log.disk (clock b.log.disk) j ≡ past a.log.disk (clock a.log.disk) j
+        files j high = ap₂ (λ (p : ℕ → Files) (t : ℕ). p t j) unchanged time
+
+        stands : IsLog tells clock past b.log is.0 rows f
+        stands = read_log tells clock past a.log b.log is.0 rows f is.1.log
+            (ap (λ (l : Log D). l.gate) log) (ap (λ (l : Log D). l.file) log) (ap (λ (l : Log D). l.number) log)
+            (ap (λ (l : Log D). l.ends) log) (ap (λ (l : Log D). l.synced) log) (ap (λ (l : Log D). l.last) log)
+            (told is.1.log.told) time unchanged
+
   module _ (fault_count : D → ℕ) (a b : Redo D) (keeps : KeepsRedo tells clock past fault_count a b) where
     pub keeps_stopped : b.stopped ≡ a.stopped
     keeps_stopped = ap (λ (r : Redo D). r.stopped) keeps.rest
@@ -57,16 +79,11 @@ module _ {D : Type 0} (tells : D → Bool) (clock : D → ℕ) (past : D → ℕ
         (λ j high. ap (λ (fs : Files). fs j) same_now)
 
     pub keeps_standing : (rows : List Row) (f : ℕ) → IsStanding tells clock past a rows f → IsStanding tells clock past b rows f
-    keeps_standing rows f is = (
-      is.0,
-      kept_redo tells clock past a b is.0 rows f is.1
-          (λ j high. ap (λ (fs : Files). fs j) same_now) (ap (λ (r : Redo D). records_in r.backlog) keeps.rest) (ap (λ (r : Redo D). r.heads) keeps.rest)
-          (ap (λ (r : Redo D). r.enacted) keeps.rest) (ap (λ (r : Redo D). r.written) keeps.rest) (ap (λ (r : Redo D). r.stopped) keeps.rest)
-          log (ap (λ (r : Redo D). r.appended) keeps.rest) (ap (λ (r : Redo D). r.flushed) keeps.rest),
-    )
-      where
-        log : IsLog tells clock past b.log is.0 rows f
-        log = read_log tells clock past a.log b.log is.0 rows f is.1.log
-            (ap (λ (l : Log D). l.gate) keeps.log) (ap (λ (l : Log D). l.file) keeps.log) (ap (λ (l : Log D). l.number) keeps.log)
-            (ap (λ (l : Log D). l.ends) keeps.log) (ap (λ (l : Log D). l.synced) keeps.log) (ap (λ (l : Log D). l.last) keeps.log)
-            (keeps.told is.1.log.told) keeps.time keeps.unchanged
+    keeps_standing = standing_alike a b keeps.log keeps.rest keeps.time keeps.unchanged keeps.told
+
+    -- what it stands for after the reads it stood for before them
+    pub stood_before : (rows : List Row) (f : ℕ) → IsStanding tells clock past b rows f → IsStanding tells clock past a rows f
+    stood_before = standing_alike b a
+        (sym (ap (λ (l : Log D). record l { disk = a.log.disk }) keeps.log))
+        (sym (ap (λ (r : Redo D). record r { log = a.log; reads = a.reads }) keeps.rest))
+        (sym keeps.time) (sym keeps.unchanged) keeps.untold

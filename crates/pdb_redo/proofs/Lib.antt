@@ -32,5 +32,6 @@ pub mod SameRest
 pub mod Settled
 pub mod Sized
 pub mod SyncLoop
+pub mod Tallies
 pub mod WriteLoop
 pub mod WrittenCells

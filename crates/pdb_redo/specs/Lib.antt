@@ -6,4 +6,5 @@ pub mod Opening
 pub mod Places
 pub mod Reaches
 pub mod Standing
+pub mod Tallies
 pub mod inner

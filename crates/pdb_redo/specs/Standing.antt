@@ -68,5 +68,6 @@ pub record KeepsRedo {D : Type 0} (tells : D → Bool) (clock : D → ℕ) (past
   pub time : clock new.log.disk ≡ clock old.log.disk
   pub unchanged : past new.log.disk ≡ past old.log.disk
   pub told : IsTrue (tells old.log.disk) → IsTrue (tells new.log.disk)
+  pub untold : IsTrue (tells new.log.disk) → IsTrue (tells old.log.disk)
   pub faults : fault_count old.log.disk ≤ fault_count new.log.disk
   pub reads : old.reads ≤ new.reads

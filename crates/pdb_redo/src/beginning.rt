@@ -14,6 +14,7 @@ use std::alloc::Global;
 impl<D: Disk> Redo<D> {
     ghost use Rattle.pdb_redo.specs.Reaches.{reach_at, reach_of};
     ghost use Rattle.pdb_redo.specs.Standing.{IsStanding};
+    ghost use Rattle.pdb_redo.specs.Tallies.{IsRedoTally};
 
     /// A session over a disk whose gate is in force and whose log files are empty.
     pub(crate) fn over(alloc: Global, disk: D, gate: GateSlot, heads: Heads) -> Redo<D>
@@ -22,6 +23,7 @@ impl<D: Disk> Redo<D> {
             → IsStanding D.tells D.clock D.past result (row ∷ []) 0 }
         ensures disk { result.log.disk ≡ disk }
         ensures reach { reach_of result ≡ reach_at gate.commits }
+        ensures tally { IsRedoTally result (record { records = gate.number; gates = gate.sequence; bytes = 0 }) }
         ensures running { result.stopped ≡ None }
     {
         let reads = disk.reads();

@@ -5,6 +5,7 @@ ghost use Rattle.pdb_disk.specs.Files.{Image, IsImage, reads_of};
 ghost use Rattle.pdb_disk.specs.Moments.{Moments};
 ghost use Rattle.pdb_log.specs.Ledger.{IsEmptyFile};
 ghost use Rattle.pdb_log.specs.Recovered.{IsRecovered};
+ghost use Rattle.pdb_log.specs.Tallies.{no_tally};
 ghost use Rattle.pdb_model.specs.Gates.{gate_place};
 ghost use Rattle.pdb_model.specs.Logs.{HasGate, gate_file};
 ghost use Rattle.pdb_model.specs.declared.gate_slot.GateSlot.{GateSlot};
@@ -77,6 +78,7 @@ fn empty_file<D: Disk>(disk: &mut D, file: u16) -> Result<(), DiskFault>
     ensures any_moment { IsTrue (D.tells disk.old) → NeverHasGate (D.past disk.old (D.clock disk.old))
         → Moments (D.clock disk.old) (D.clock disk.new) (D.past disk.old) (D.past disk.new) HasNoGateYet }
     ensures emptied { IsTrue (D.tells disk.old) → OnOk result (IsEmptied file (D.past disk.old (D.clock disk.old)) (D.past disk.new (D.clock disk.new))) }
+    ensures later { D.clock disk.old ≤ D.clock disk.new }
     ensures told { IsTrue (D.tells disk.old) → IsTrue (D.tells disk.new) }
     ensures counted { CountsFault (is_err result) (D.fault_count disk.old) (D.fault_count disk.new) }
 {
@@ -91,6 +93,7 @@ fn empty_store_file<D: Disk>(disk: &mut D, file: u16) -> Result<(), DiskFault>
     ensures any_moment { IsTrue (D.tells disk.old) → NeverHasGate (D.past disk.old (D.clock disk.old))
         → Moments (D.clock disk.old) (D.clock disk.new) (D.past disk.old) (D.past disk.new) HasNoGateYet }
     ensures emptied { IsTrue (D.tells disk.old) → OnOk result (IsEmptiedIfStored file (D.past disk.old (D.clock disk.old)) (D.past disk.new (D.clock disk.new))) }
+    ensures later { D.clock disk.old ≤ D.clock disk.new }
     ensures told { IsTrue (D.tells disk.old) → IsTrue (D.tells disk.new) }
     ensures counted { CountsFault (is_err result) (D.fault_count disk.old) (D.fault_count disk.new) }
 {
@@ -106,6 +109,7 @@ fn empty_files<D: Disk>(disk: &mut D) -> Result<(), DiskFault>
     ensures any_moment { IsTrue (D.tells disk.old) → NeverHasGate (D.past disk.old (D.clock disk.old))
         → Moments (D.clock disk.old) (D.clock disk.new) (D.past disk.old) (D.past disk.new) HasNoGateYet }
     ensures emptied { IsTrue (D.tells disk.old) → OnOk result (AreEmpty 66 (D.past disk.new (D.clock disk.new))) }
+    ensures later { D.clock disk.old ≤ D.clock disk.new }
     ensures told { IsTrue (D.tells disk.old) → IsTrue (D.tells disk.new) }
     ensures counted { CountsFault (is_err result) (D.fault_count disk.old) (D.fault_count disk.new) }
 {
@@ -121,6 +125,7 @@ fn write_heads<D: Disk>(disk: &mut D, head: &[u8; 256]) -> Result<(), DiskFault>
         → Moments (D.clock disk.old) (D.clock disk.new) (D.past disk.old) (D.past disk.new) HasNoGateYet }
     ensures headed { IsTrue (D.tells disk.old) → IsEmptyFile (D.past disk.old (D.clock disk.old) head_file)
         → OnOk result (AreHeaded head.now (D.past disk.old (D.clock disk.old)) (D.past disk.new (D.clock disk.new))) }
+    ensures later { D.clock disk.old ≤ D.clock disk.new }
     ensures told { IsTrue (D.tells disk.old) → IsTrue (D.tells disk.new) }
     ensures counted { CountsFault (is_err result) (D.fault_count disk.old) (D.fault_count disk.new) }
 {
@@ -135,6 +140,7 @@ fn write_first_gate<D: Disk>(disk: &mut D) -> Result<(), DiskFault>
         → Moments (D.clock disk.old) (D.clock disk.new) (D.past disk.old) (D.past disk.new) (IsNoneOrNew base) }
     ensures gated { (base : ℕ) → IsTrue (D.tells disk.old) → AreUngated base (D.past disk.old (D.clock disk.old))
         → OnOk result (IsRecovered (D.past disk.new (D.clock disk.new)) first_gate (new_row base)) }
+    ensures later { D.clock disk.old ≤ D.clock disk.new }
     ensures told { IsTrue (D.tells disk.old) → IsTrue (D.tells disk.new) }
     ensures counted { CountsFault (is_err result) (D.fault_count disk.old) (D.fault_count disk.new) }
 {
@@ -151,6 +157,7 @@ fn create_files<D: Disk>(disk: &mut D, base: u8) -> Result<(), CreateCause>
     ensures free { IsTrue (D.tells disk.old) → OnOk result (HasNoGate (reads_of (D.past disk.old (D.clock disk.old)))) }
     ensures causes { IsTrue (D.tells disk.old) → IfErr result (CreateSays (reads_of (D.past disk.old (D.clock disk.old)))) }
     ensures untouched { IsErrOf result CreateCause.Occupied → (D.clock disk.new ≡ D.clock disk.old) × (D.past disk.new ≡ D.past disk.old) }
+    ensures later { D.clock disk.old ≤ D.clock disk.new }
     ensures told { IsTrue (D.tells disk.old) → IsTrue (D.tells disk.new) }
     ensures counted { MatchResult result (λ _. D.fault_count disk.new ≡ D.fault_count disk.old)
         (λ e. CountsFault (is_create_disk e) (D.fault_count disk.old) (D.fault_count disk.new)) }
@@ -167,6 +174,7 @@ fn create_files<D: Disk>(disk: &mut D, base: u8) -> Result<(), CreateCause>
 impl<D: Disk> Redo<D> {
     ghost use Rattle.pdb_redo.specs.Reaches.{reach_at, reach_of};
     ghost use Rattle.pdb_redo.specs.Standing.{IsStanding};
+    ghost use Rattle.pdb_redo.specs.Tallies.{IsRedoTally};
 
     /// Makes a database without keys on a disk; both columns have this base, at most 16. `Occupied` comes exactly where a gate
     /// slot is whole, after a fault of the disk that reads them, and then nothing was changed.
@@ -180,7 +188,9 @@ impl<D: Disk> Redo<D> {
         ensures untouched { IfErr result (λ e. e.fault ≡ CreateCause.Occupied
             → (D.clock e.disk ≡ D.clock disk) × (D.past e.disk ≡ D.past disk)) }
         ensures reach { IfOk result (λ r. reach_of r ≡ reach_at 0) }
+        ensures tally { IfOk result (λ r. IsRedoTally r no_tally) }
         ensures running { IfOk result (λ r. r.stopped ≡ None) }
+        ensures later { D.clock disk ≤ D.clock (created_disk result) }
         ensures told { IsTrue (D.tells disk) → IsTrue (D.tells (created_disk result)) }
         ensures counted { CountsFault (create_disk_fails result) (D.fault_count disk) (D.fault_count (created_disk result)) }
     {

@@ -8,6 +8,7 @@ ghost use Rattle.pdb_log.specs.Elapsed.{TimeGoesOn};
 ghost use Rattle.pdb_log.specs.Ledger.{IsEmptyFile, row_after};
 ghost use Rattle.pdb_model.specs.Logs.{IsLogFile, most_in_log};
 ghost use Rattle.pdb_log.specs.Standing.{end_of_log};
+ghost use Rattle.pdb_log.specs.Tallies.{Tally, with_bytes, with_gate};
 ghost use Rattle.pdb_model.specs.Records.{Record, body_bytes, record_bytes};
 ghost use Rattle.pdb_model.specs.Recovery.{Row, Safe};
 ghost use Rattle.pdb_redo.specs.Backlogs.{HasPlaceFor, records_in};
@@ -164,6 +165,7 @@ impl<D: Disk> Redo<D> {
     ghost use Rattle.pdb_redo.specs.Answers.{IsOfAppending, IsOfCleaning, IsOfFlushing, IsOfRedoRead, StopsAt, redo_disk_fails};
     ghost use Rattle.pdb_redo.specs.Reaches.{Advances, RedoGoesOn, all_ready, reach_of, with_logged};
     ghost use Rattle.pdb_redo.specs.Standing.{IsStanding, KeepsRedo, cells_under_records, next_redo_record, KeepsCells};
+    ghost use Rattle.pdb_redo.specs.Tallies.{IsRedoTally};
 
     /// Fills `into` with a cell of the last row: its bytes in the newest record that puts it, else those in its file. It
     /// takes no memory and never answers `Stopped`; `Disk` comes only where the disk's count of faults rises.
@@ -227,7 +229,10 @@ impl<D: Disk> Redo<D> {
         ensures stops { self.old.stopped ≡ None → StopsAt (D.clock self.new.log.disk) self.new.stopped result }
         ensures cells { IsTrue (D.tells self.old.log.disk) → IsErr result → KeepsCells D.clock D.past self.old self.new }
         ensures reach { MatchResult result (λ _. reach_of self.new ≡ with_logged (reach_of self.old) commits) (λ _. reach_of self.new ≡ reach_of self.old) }
+        ensures tally { (t : Tally) → IsRedoTally self.old t
+            → OnOk result (IsRedoTally self.new (with_bytes t (length (record_bytes (next_redo_record self.old commits puts))))) }
         ensures goes_on { RedoGoesOn D.clock D.past self.old self.new }
+        ensures one_call { OnOk result (D.clock self.new.log.disk ≡ D.clock self.old.log.disk + 1) }
         ensures told { IsTrue (D.tells self.old.log.disk) → IsTrue (D.tells self.new.log.disk) }
         ensures counted { CountsFault (redo_disk_fails result) (D.fault_count self.old.log.disk) (D.fault_count self.new.log.disk) }
     {
@@ -307,6 +312,7 @@ impl<D: Disk> Redo<D> {
         ensures cells { IsTrue (D.tells self.old.log.disk) → IsErr result → KeepsCells D.clock D.past self.old self.new }
         ensures reach { MatchResult result (λ n. (n ≡ (reach_of self.old).logged) × (reach_of self.new ≡ all_ready (reach_of self.old)))
             (λ _. reach_of self.new ≡ reach_of self.old) }
+        ensures tally { (t : Tally) → IsRedoTally self.old t → IsRedoTally self.new t }
         ensures goes_on { RedoGoesOn D.clock D.past self.old self.new }
         ensures told { IsTrue (D.tells self.old.log.disk) → IsTrue (D.tells self.new.log.disk) }
         ensures counted { CountsFault (redo_disk_fails result) (D.fault_count self.old.log.disk) (D.fault_count self.new.log.disk) }
@@ -334,12 +340,14 @@ impl<D: Disk> Redo<D> {
             → IfOk result (λ o. MatchOption o (self.old.enacted.number ≡ self.old.flushed.number)
             (λ n. (r : Record) × (slice_get (records_in self.old.backlog) 0 ≡ Some r) × (n ≡ r.commits) × (self.new.enacted.number ≡ r.number))) }
         ensures idle { self.old.enacted.number ≡ self.old.flushed.number → OnOk result ((result ≡ Ok None) × (self.new ≡ self.old)) }
+        ensures nothing { result ≡ Ok None → self.new ≡ self.old }
         ensures causes { IfErr result IsOfFlushing }
         ensures stopped { (call : ℕ) → self.old.stopped ≡ Some call → (result ≡ Err (RedoFault.Stopped call)) × (self.new ≡ self.old) }
         ensures stops { self.old.stopped ≡ None → StopsAt (D.clock self.new.log.disk) self.new.stopped result }
         ensures cells { (rows : List Row) (f : ℕ) → IsStanding D.tells D.clock D.past self.old rows f
             → IsErr result → KeepsCells D.clock D.past self.old self.new }
         ensures reach { MatchResult result (λ o. Advances (reach_of self.old) o (reach_of self.new)) (λ _. reach_of self.new ≡ reach_of self.old) }
+        ensures tally { (t : Tally) → IsRedoTally self.old t → IsRedoTally self.new t }
         ensures goes_on { RedoGoesOn D.clock D.past self.old self.new }
         ensures told { IsTrue (D.tells self.old.log.disk) → IsTrue (D.tells self.new.log.disk) }
         ensures counted { CountsFault (redo_disk_fails result) (D.fault_count self.old.log.disk) (D.fault_count self.new.log.disk) }
@@ -390,6 +398,7 @@ impl<D: Disk> Redo<D> {
         ensures stops { self.old.stopped ≡ None → StopsAt (D.clock self.new.log.disk) self.new.stopped result }
         ensures cells { IsTrue (D.tells self.old.log.disk) → IsErr result → KeepsCells D.clock D.past self.old self.new }
         ensures reach { reach_of self.new ≡ reach_of self.old }
+        ensures tally { (t : Tally) → IsRedoTally self.old t → IsRedoTally self.new (with_gate t) }
         ensures goes_on { RedoGoesOn D.clock D.past self.old self.new }
         ensures told { IsTrue (D.tells self.old.log.disk) → IsTrue (D.tells self.new.log.disk) }
         ensures counted { CountsFault (redo_disk_fails result) (D.fault_count self.old.log.disk) (D.fault_count self.new.log.disk) }
@@ -425,6 +434,7 @@ impl<D: Disk> Redo<D> {
             → OnOk result ((j : ℕ) → IsLogFile j → IsEmptyFile (D.past self.new.log.disk (D.clock self.new.log.disk) j)) }
         ensures rest { self.new ≡ record self.old { log = self.new.log; written = self.new.written } }
         ensures cells { IsTrue (D.tells self.old.log.disk) → KeepsCells D.clock D.past self.old self.new }
+        ensures tally { (t : Tally) → IsRedoTally self.old t → IsRedoTally self.new (with_gate t) }
         ensures goes_on { TimeGoesOn D.clock D.past self.old.log.disk self.new.log.disk }
         ensures told { IsTrue (D.tells self.old.log.disk) → IsTrue (D.tells self.new.log.disk) }
         ensures counted { CountsFault (is_err result) (D.fault_count self.old.log.disk) (D.fault_count self.new.log.disk) }

@@ -16,7 +16,7 @@ module _ {D : Type 0} (tells : D → Bool) (clock : D → ℕ) (past : D → ℕ
   Keeps a b = KeepsRedo tells clock past fault_count a b
 
   pub keeps_itself : (a : Redo D) → Keeps a a
-  keeps_itself a = record { log = refl; rest = refl; time = refl; unchanged = refl; told = λ t. t; faults = omega arith; reads = omega arith }
+  keeps_itself a = record { log = refl; rest = refl; time = refl; unchanged = refl; told = λ t. t; untold = λ t. t; faults = omega arith; reads = omega arith }
 
   pub keeps_on : (a b c : Redo D) → Keeps a b → Keeps b c → Keeps a c
   keeps_on a b c p q = record {
@@ -25,6 +25,7 @@ module _ {D : Type 0} (tells : D → Bool) (clock : D → ℕ) (past : D → ℕ
     time = q.time ∙ p.time;
     unchanged = q.unchanged ∙ p.unchanged;
     told = λ t. q.told (p.told t);
+    untold = λ t. p.untold (q.untold t);
     faults = let f = p.faults in let g = q.faults in omega (arith, f, g);
     reads = let f = p.reads in let g = q.reads in omega (arith, f, g);
   }

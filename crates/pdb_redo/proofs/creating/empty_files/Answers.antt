@@ -5,6 +5,7 @@ use Rattle.pdb_redo.proofs.creating.empty_files.Goals as goal
 
 pub loop-file-init : goal.loop-file-init
 loop-file-init g c = record {
+  later = omega arith;
   told = λ told. told;
   counted = refl;
   ungated = λ told never. ungated_at_first g.D.Disk.clock g.D.Disk.past c.args.disk.now never;
@@ -22,6 +23,7 @@ returns-in_err-empty_store_file-clause-told g c told = c.empty_store_file.ensure
 
 pub loop-file-preserved : goal.loop-file-preserved
 loop-file-preserved g c = record {
+  later = let a = c.loop-file.invariant.later in let b = c.empty_store_file.ensures.later in omega (arith, a, b);
   told = λ told. c.empty_store_file.ensures.told (c.loop-file.invariant.told told);
   counted = c.in_ok-empty_store_file.ensures.counted ∙ c.loop-file.invariant.counted;
   ungated = λ told never.
@@ -47,3 +49,10 @@ returns-clause-told g c told = c.loop-file.invariant.told told
 
 pub returns-clause-counted : goal.returns-clause-counted
 returns-clause-counted g c = c.loop-file.invariant.counted
+
+pub returns-in_err-empty_store_file-clause-later : goal.returns-in_err-empty_store_file-clause-later
+returns-in_err-empty_store_file-clause-later g c =
+    let a = c.loop-file.invariant.later in let b = c.empty_store_file.ensures.later in omega (arith, a, b)
+
+pub returns-clause-later : goal.returns-clause-later
+returns-clause-later g c = c.loop-file.invariant.later

@@ -123,3 +123,13 @@ returns-clause-bytes_end g c =
     let low = c.if-at-gt-MOST.false in
     let fits = c.if-len-at.false in
     ((λ e. cc), (λ h. let past = h.1 in absurd (omega (arith, past, short, len, low, fits))))
+
+pub returns-in-Ok-write_at-clause-tally : goal.returns-in-Ok-write_at-clause-tally
+returns-in-Ok-write_at-clause-tally g c t is =
+    let r : Record = next_record c.args.self.now c.args.commits c.args.puts.now in
+    let len : 56 + c.body_len-len.result ≡ length (record_bytes r) =
+    ap (λ n. 56 + n) (c.body_len-len.ensures ∙ ap (λ (ps : List Put). length (body_bytes ps)) c.as_slice.ensures) ∙ sym (record_len r) in
+    let five : length c.args.self.now.ends ≡ 5 = search rules in
+    let end = (set_to c.args.self.now.ends c.args.self.now.file.number (end_of_log c.args.self.now + (56 + c.body_len-len.result))
+    (let p = c.args.self.now.file.in_ring.1 in omega (arith, five, p))).here in
+    record { records = ap (λ n. n + 1) is.records; gates = is.gates; bytes = let most = is.bytes in omega (arith, end, len, most) }

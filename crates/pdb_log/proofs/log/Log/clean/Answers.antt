@@ -1,9 +1,11 @@
-use Rattle.std.proofs.Common.{◌∙◌, ◌+◌, subst}
+use Rattle.std.proofs.Common.{◌∙◌, ◌+◌, subst, arith}
 use Rattle.pdb_disk.proofs.Calls.{joined}
 use Rattle.pdb_log.specs.Ledger.{Ledger, cleared, passed}
 use Rattle.pdb_log.specs.Standing.{IsLog, next_gate}
 use Rattle.pdb_log.proofs.Cleared.{files_cleared_as}
 use Rattle.pdb_log.proofs.Times.{time_then}
+use Rattle.pdb_log.specs.Tallies.{with_gate}
+use Rattle.pdb_log.proofs.Tallies.{tally_rises}
 use Rattle.pdb_log.proofs.log.Log.clean.Goals as goal
 
 pub returns-in_err-clear_passed-clause-any_moment : goal.returns-in_err-clear_passed-clause-any_moment
@@ -101,3 +103,35 @@ returns-clause-goes_on g c =
     let t2 = time_then g.D.Disk.clock g.D.Disk.past c.args.self.now.disk c.clear_passed.new.self.disk c.clear_passed-2.new.self.disk t1 c.clear_passed-2.ensures.goes_on in
     let t3 = time_then g.D.Disk.clock g.D.Disk.past c.args.self.now.disk c.clear_passed-2.new.self.disk c.clear_passed-3.new.self.disk t2 c.clear_passed-3.ensures.goes_on in
     time_then g.D.Disk.clock g.D.Disk.past c.args.self.now.disk c.clear_passed-3.new.self.disk c.clear_passed-4.new.self.disk t3 c.clear_passed-4.ensures.goes_on
+
+pub returns-in_err-write_gate-clause-tally : goal.returns-in_err-write_gate-clause-tally
+returns-in_err-write_gate-clause-tally g c t is =
+    c.write_gate.ensures.tally (with_gate t) (tally_rises c.args.self.now t is) (let most = is.gates in omega (arith, most))
+
+pub returns-in_err-clear_passed-clause-tally : goal.returns-in_err-clear_passed-clause-tally
+returns-in_err-clear_passed-clause-tally g c t is =
+    let t0 = c.write_gate.ensures.tally (with_gate t) (tally_rises c.args.self.now t is) (let most = is.gates in omega (arith, most)) in
+    c.clear_passed.ensures.tally (with_gate t) t0
+
+pub returns-in_err-clear_passed-2-clause-tally : goal.returns-in_err-clear_passed-2-clause-tally
+returns-in_err-clear_passed-2-clause-tally g c t is =
+    let t0 = c.write_gate.ensures.tally (with_gate t) (tally_rises c.args.self.now t is) (let most = is.gates in omega (arith, most)) in
+    c.clear_passed-2.ensures.tally (with_gate t) (c.clear_passed.ensures.tally (with_gate t) t0)
+
+pub returns-in_err-clear_passed-3-clause-tally : goal.returns-in_err-clear_passed-3-clause-tally
+returns-in_err-clear_passed-3-clause-tally g c t is =
+    let t0 = c.write_gate.ensures.tally (with_gate t) (tally_rises c.args.self.now t is) (let most = is.gates in omega (arith, most)) in
+    let t2 = c.clear_passed-2.ensures.tally (with_gate t) (c.clear_passed.ensures.tally (with_gate t) t0) in
+    c.clear_passed-3.ensures.tally (with_gate t) t2
+
+pub returns-in_err-clear_passed-4-clause-tally : goal.returns-in_err-clear_passed-4-clause-tally
+returns-in_err-clear_passed-4-clause-tally g c t is =
+    let t0 = c.write_gate.ensures.tally (with_gate t) (tally_rises c.args.self.now t is) (let most = is.gates in omega (arith, most)) in
+    let t2 = c.clear_passed-2.ensures.tally (with_gate t) (c.clear_passed.ensures.tally (with_gate t) t0) in
+    c.clear_passed-4.ensures.tally (with_gate t) (c.clear_passed-3.ensures.tally (with_gate t) t2)
+
+pub returns-clause-tally : goal.returns-clause-tally
+returns-clause-tally g c t is =
+    let t0 = c.write_gate.ensures.tally (with_gate t) (tally_rises c.args.self.now t is) (let most = is.gates in omega (arith, most)) in
+    let t2 = c.clear_passed-2.ensures.tally (with_gate t) (c.clear_passed.ensures.tally (with_gate t) t0) in
+    c.clear_passed-4.ensures.tally (with_gate t) (c.clear_passed-3.ensures.tally (with_gate t) t2)

@@ -62,3 +62,20 @@ returns-clause-goes_on g c =
     let t1 = time_then g.D.Disk.clock g.D.Disk.past c.args.self.now.disk c.sync_records.new.self.disk c.sync_records-2.new.self.disk c.sync_records.ensures.goes_on c.sync_records-2.ensures.goes_on in
     let t2 = time_then g.D.Disk.clock g.D.Disk.past c.args.self.now.disk c.sync_records-2.new.self.disk c.sync_records-3.new.self.disk t1 c.sync_records-3.ensures.goes_on in
     time_then g.D.Disk.clock g.D.Disk.past c.args.self.now.disk c.sync_records-3.new.self.disk c.sync_records-4.new.self.disk t2 c.sync_records-4.ensures.goes_on
+
+pub returns-in_err-sync_records-2-clause-tally : goal.returns-in_err-sync_records-2-clause-tally
+returns-in_err-sync_records-2-clause-tally g c t is = c.sync_records-2.ensures.tally t (c.sync_records.ensures.tally t is)
+
+pub returns-in_err-sync_records-3-clause-tally : goal.returns-in_err-sync_records-3-clause-tally
+returns-in_err-sync_records-3-clause-tally g c t is =
+    c.sync_records-3.ensures.tally t (c.sync_records-2.ensures.tally t (c.sync_records.ensures.tally t is))
+
+pub returns-in_err-sync_records-4-clause-tally : goal.returns-in_err-sync_records-4-clause-tally
+returns-in_err-sync_records-4-clause-tally g c t is =
+    let t3 = c.sync_records-3.ensures.tally t (c.sync_records-2.ensures.tally t (c.sync_records.ensures.tally t is)) in
+    c.sync_records-4.ensures.tally t t3
+
+pub returns-clause-tally : goal.returns-clause-tally
+returns-clause-tally g c t is =
+    let t3 = c.sync_records-3.ensures.tally t (c.sync_records-2.ensures.tally t (c.sync_records.ensures.tally t is)) in
+    c.sync_records-4.ensures.tally t t3

@@ -19,6 +19,7 @@ use Rattle.pdb_redo.specs.Standing.{IsStanding, next_redo_record}
 use Rattle.pdb_redo.proofs.Appended.{appended_redo, at_end_of, moments_as, next_same, safe_more, turned_as}
 use Rattle.pdb_redo.proofs.Redos.{same_cells}
 use Rattle.pdb_redo.proofs.Reached.{goes_by, reach_logged, reach_same}
+use Rattle.pdb_redo.proofs.Tallies.{redo_appends}
 use Rattle.pdb_redo.proofs.redo_log.Redo.append.Goals as goal
 
 same_end : (which : Counter) → ◌≡◌ {A = Result ℕ RedoFault} (Err (redo.NumbersEnd which)) (Err (redo.NumbersEnd LogBytes)) → which ≡ LogBytes
@@ -150,3 +151,8 @@ returns-clause-reach g c =
 pub returns-clause-goes_on : goal.returns-clause-goes_on
 returns-clause-goes_on g c =
     goes_by g.D.Disk.clock g.D.Disk.past c.args.self.now c.stop.new.self (rw c.stop.ensures.noted c.append.ensures.goes_on) (rw c.stop.ensures.noted refl)
+
+pub returns-in-Ok-clause-tally : goal.returns-in-Ok-clause-tally
+returns-in-Ok-clause-tally g c t is =
+    redo_appends c.args.self.now t is c.rotate.new.self c.add_waiting.new.self c.args.commits c.args.puts
+    (c.rotate.ensures.tally _ (c.in-Ok.ensures.tally t is.log)) c.add_waiting.ensures.log c.add_waiting.ensures.appended

@@ -5,6 +5,8 @@ use Rattle.pdb_model.specs.declared.gate_slot.GateSlot.{GateSlot}
 use Rattle.pdb_redo.proofs.Appended.{safe_now_of}
 use Rattle.pdb_redo.proofs.Emptied.{files_empty, nothing_waits}
 use Rattle.pdb_redo.proofs.Reached.{goes_by}
+use Rattle.pdb_log.specs.Tallies.{with_gate}
+use Rattle.pdb_redo.proofs.Tallies.{redo_rises, redo_tally}
 use Rattle.pdb_redo.proofs.redo_log.Redo.clean.Goals as goal
 
 pub returns-then-self-gate-clause-any_moment : goal.returns-then-self-gate-clause-any_moment
@@ -38,3 +40,14 @@ pub returns-in-Err-clause-goes_on : goal.returns-in-Err-clause-goes_on
 returns-in-Err-clause-goes_on g c =
     goes_by g.D.Disk.clock g.D.Disk.past c.args.self.now c.stop.new.self (rw c.stop.ensures.noted c.pass_enacted.ensures.goes_on)
     (rw (c.stop.ensures.noted, c.pass_enacted.ensures.rest) refl)
+
+pub returns-then-self-gate-clause-tally : goal.returns-then-self-gate-clause-tally
+returns-then-self-gate-clause-tally g c t is = redo_rises c.args.self.now t is
+
+pub returns-then-gate-clause-tally : goal.returns-then-gate-clause-tally
+returns-then-gate-clause-tally g c t is = redo_rises c.args.self.now t is
+
+pub returns-in-Err-clause-tally : goal.returns-in-Err-clause-tally
+returns-in-Err-clause-tally g c t is =
+    let goes = c.pass_enacted.ensures.tally t is in
+    redo_tally c.pass_enacted.new.self (with_gate t) goes c.stop.new.self (with_gate t) refl (rw c.stop.ensures.noted goes.log) (rw c.stop.ensures.noted refl)

@@ -13,6 +13,8 @@ use Rattle.pdb_redo.proofs.Carried.{carries_rest, first_is, first_whole, rest_en
 use Rattle.pdb_redo.proofs.Enacted.{enacted_redo, is_flushed, same_while_written, waits_somewhere}
 use Rattle.pdb_redo.proofs.Marked.{marked_rest}
 use Rattle.pdb_redo.proofs.Reached.{goes_by, reach_done, reach_enacted, reach_idle}
+use Rattle.pdb_log.proofs.Tallies.{tally_beside}
+use Rattle.pdb_redo.proofs.Tallies.{redo_tally}
 use Rattle.pdb_redo.proofs.redo_log.Redo.enact.Goals as goal
 
 pub returns-then-self-clause-any_moment : goal.returns-then-self-clause-any_moment
@@ -100,3 +102,12 @@ returns-in-Err-clause-reach g c = rw c.stop.ensures.noted refl
 pub returns-in-Err-clause-goes_on : goal.returns-in-Err-clause-goes_on
 returns-in-Err-clause-goes_on g c =
     goes_by g.D.Disk.clock g.D.Disk.past c.args.self.now c.stop.new.self (rw c.stop.ensures.noted c.write_puts.ensures.writes.goes_on) (rw c.stop.ensures.noted refl)
+
+pub returns-in-Ok-clause-tally : goal.returns-in-Ok-clause-tally
+returns-in-Ok-clause-tally g c t is =
+    redo_tally c.args.self.now t is _ t refl (tally_beside c.args.self.now.log t is.log c.write_puts.new.log c.write_puts.ensures.writes.rest) refl
+
+pub returns-in-Err-clause-tally : goal.returns-in-Err-clause-tally
+returns-in-Err-clause-tally g c t is =
+    redo_tally c.args.self.now t is c.stop.new.self t refl
+    (rw c.stop.ensures.noted (tally_beside c.args.self.now.log t is.log c.write_puts.new.log c.write_puts.ensures.writes.rest)) (rw c.stop.ensures.noted refl)

@@ -3,6 +3,7 @@ use Rattle.pdb_log.specs.Ledger.{files_synced, records_flushed}
 use Rattle.pdb_redo.specs.Standing.{IsStanding}
 use Rattle.pdb_redo.proofs.Redos.{at_last, flushed_redo, last_commits, same_cells}
 use Rattle.pdb_redo.proofs.Reached.{goes_by, reach_flushed}
+use Rattle.pdb_redo.proofs.Tallies.{redo_tally}
 use Rattle.pdb_redo.proofs.redo_log.Redo.flush.Goals as goal
 
 pub returns-in-Ok-clause-flushed : goal.returns-in-Ok-clause-flushed
@@ -41,3 +42,10 @@ returns-in-Err-clause-reach g c = rw c.stop.ensures.noted refl
 pub returns-in-Err-clause-goes_on : goal.returns-in-Err-clause-goes_on
 returns-in-Err-clause-goes_on g c =
     goes_by g.D.Disk.clock g.D.Disk.past c.args.self.now c.stop.new.self (rw c.stop.ensures.noted c.flush.ensures.goes_on) (rw c.stop.ensures.noted refl)
+
+pub returns-in-Err-clause-tally : goal.returns-in-Err-clause-tally
+returns-in-Err-clause-tally g c t is =
+    redo_tally c.args.self.now t is c.stop.new.self t refl (rw c.stop.ensures.noted (c.flush.ensures.tally t is.log)) (rw c.stop.ensures.noted refl)
+
+pub returns-in-Ok-clause-tally : goal.returns-in-Ok-clause-tally
+returns-in-Ok-clause-tally g c t is = redo_tally c.args.self.now t is _ t refl (c.flush.ensures.tally t is.log) refl

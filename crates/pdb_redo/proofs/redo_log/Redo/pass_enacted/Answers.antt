@@ -11,6 +11,9 @@ use Rattle.pdb_redo.proofs.Emptied.{empty_file}
 use Rattle.pdb_redo.proofs.Passed.{all_passed, cleared_as, next_is, passed_redo}
 use Rattle.pdb_redo.proofs.Redos.{same_read, still_settled}
 use Rattle.pdb_log.proofs.Times.{time_then}
+use Rattle.pdb_log.specs.Tallies.{with_gate}
+use Rattle.pdb_log.proofs.Tallies.{tally_beside, tally_rises}
+use Rattle.pdb_redo.proofs.Tallies.{redo_tally}
 use Rattle.pdb_redo.proofs.redo_log.Redo.pass_enacted.Goals as goal
 
 on_ok : {T E : Type 0} {P Q : Type 0} (r : Result T E) → OnOk r P → (P → Q) → OnOk r Q
@@ -66,3 +69,13 @@ returns-in_err-sync_written-clause-goes_on g c = c.sync_written.ensures.passes.g
 pub returns-clause-goes_on : goal.returns-clause-goes_on
 returns-clause-goes_on g c =
     time_then g.D.Disk.clock g.D.Disk.past c.args.self.now.log.disk c.sync_written.new.log.disk c.clean.new.self.disk c.sync_written.ensures.passes.goes_on c.clean.ensures.goes_on
+
+pub returns-in_err-sync_written-clause-tally : goal.returns-in_err-sync_written-clause-tally
+returns-in_err-sync_written-clause-tally g c t is =
+    let log = tally_beside c.args.self.now.log t is.log c.sync_written.new.log c.sync_written.ensures.passes.rest in
+    redo_tally c.args.self.now t is _ (with_gate t) refl (tally_rises c.sync_written.new.log t log) refl
+
+pub returns-clause-tally : goal.returns-clause-tally
+returns-clause-tally g c t is =
+    let log = tally_beside c.args.self.now.log t is.log c.sync_written.new.log c.sync_written.ensures.passes.rest in
+    redo_tally c.args.self.now t is _ (with_gate t) refl (c.clean.ensures.tally t log) refl

@@ -56,6 +56,7 @@ returns-in-Err-clause-keeps g c = record {
   time = c.read_at.ensures.time;
   unchanged = c.read_at.ensures.unchanged;
   told = c.read_at.ensures.told;
+  untold = c.read_at.ensures.untold;
   faults = c.read_at.ensures.faults;
   reads = c.reads_after-self.ensures.rises;
 }
