@@ -22,3 +22,4 @@ pub mod Entered
 pub mod Located
 pub mod Planned
 pub mod SlotsFirst
+pub mod NoSlots

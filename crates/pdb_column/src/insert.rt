@@ -7,7 +7,8 @@ ghost use Rattle.pdb_column.specs.Damages.{BreaksColumn, IsFullChunk};
 ghost use Rattle.pdb_column.specs.Holding.{HoldsColumn};
 ghost use Rattle.pdb_column.specs.Maps.{ColumnMap, IsCrowded};
 ghost use Rattle.pdb_column.specs.inner.Changes.{IsChanged, IsPlaced};
-ghost use Rattle.pdb_column.specs.inner.Faults.{AnyCell, AnyTier, StepSays, step_disk_fails};
+ghost use Rattle.pdb_column.specs.Storing.{LacksSlots};
+ghost use Rattle.pdb_column.specs.inner.Faults.{AnyCell, AnyChunk, AnyTier, StepSays, step_disk_fails};
 ghost use Rattle.pdb_column.specs.inner.KeyChunks.{HasKeyChunk};
 
 use crate::fault::StepFault;
@@ -63,6 +64,9 @@ pub(crate) fn insert<C: Cells>(
         → HoldsColumn cells column chunk.old.base content
         → IfErr result (StepSays AnyCell AnyTier (λ bits n. (after : Content) × Drafts d.new.puts (C.seen d.new.under.now) after
         × IsPlaced after column key.now bytes.now)) }
+    ensures no_slots { (cells : Content) (content : ColumnMap) → Drafts d.old.puts (C.seen d.old.under.now) cells
+        → HoldsColumn cells column chunk.old.base content
+        → IfErr result (StepSays AnyCell (LacksSlots chunk.old.base content key.now bytes.now column) AnyChunk) }
     ensures faults { (cells : Content) → Drafts d.old.puts (C.seen d.old.under.now) cells
         → HasKeyChunk cells column key.now chunk.old.base chunk.old.entries.items
         → IfErr result (StepSays (λ file cell. (after : Content) × Drafts d.new.puts (C.seen d.new.under.now) after

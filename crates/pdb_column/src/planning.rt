@@ -6,9 +6,9 @@ ghost use Rattle.pdb_column.specs.Answers.{IsStorable, PlanSays, plan_disk_fails
 ghost use Rattle.pdb_column.specs.Damages.{BreaksColumn, IsFullChunk};
 ghost use Rattle.pdb_column.specs.Holding.{HoldsColumns};
 ghost use Rattle.pdb_column.specs.Maps.{ColumnMap, FillsChunk, column_after, column_from};
-ghost use Rattle.pdb_column.specs.Storing.{HasPlaced};
-ghost use Rattle.pdb_column.specs.inner.Faults.{AnyCell, AnyTier, StepSays, step_disk_fails};
-ghost use Rattle.pdb_column.specs.inner.Operations.{Crowds, HasItsSlots, column_of};
+ghost use Rattle.pdb_column.specs.Storing.{FillsTier, HasPlaced};
+ghost use Rattle.pdb_column.specs.inner.Faults.{AnyCell, AnyChunk, AnyTier, StepSays, step_disk_fails};
+ghost use Rattle.pdb_column.specs.inner.Operations.{Crowds, HasItsSlots, NeedsSlots, column_of};
 
 use crate::fault::{PlanFault, StepFault, plan_fault};
 use crate::steps::{add_node, drop_key, put_plain};
@@ -49,6 +49,10 @@ fn plan_op<C: Cells>(alloc: Global, d: &mut Draft<'_, C>, op: &Op) -> Result<(),
         → Drafts d.old.puts (C.seen d.old.under.now) cells
         → HoldsColumns cells bases contents → IfErr result (StepSays AnyCell AnyTier
         (λ bits n. (after : Content) × Drafts d.new.puts (C.seen d.new.under.now) after × HasItsSlots after (column_of op.now) op.now)) }
+    ensures no_slots { (cells : Content) (bases : ℕ → ℕ) (contents : ℕ → ColumnMap)
+        → Drafts d.old.puts (C.seen d.old.under.now) cells
+        → HoldsColumns cells bases contents
+        → IfErr result (StepSays AnyCell (NeedsSlots bases contents op.now (column_of op.now)) AnyChunk) }
     ensures faults { (cells : Content) → Drafts d.old.puts (C.seen d.old.under.now) cells
         → IfErr result (StepSays (λ file cell. (after : Content) × Drafts d.new.puts (C.seen d.new.under.now) after
         × BreaksColumn after (column_of op.now) file cell)
@@ -104,6 +108,11 @@ pub fn plan<C: Cells>(alloc: Global, d: &mut Draft<'_, C>, ops: &Ops) -> Result<
         (λ column bits chunk. (after : Content) × Drafts d.new.puts (C.seen d.new.under.now) after
         × HasPlaced after (bases column) (contents column) ops.now column bits chunk)
         (λ column tier. Unit {0})) }
+    ensures no_slots { (cells : Content) (bases : ℕ → ℕ) (contents : ℕ → ColumnMap)
+        → Drafts d.old.puts (C.seen d.old.under.now) cells
+        → HoldsColumns cells bases contents → IfErr result (PlanSays (λ file cell. Unit {0})
+        (λ column bits chunk. Unit {0})
+        (λ column tier. FillsTier (bases column) (contents column) ops.now column tier)) }
     ensures faults { (cells : Content) → Drafts d.old.puts (C.seen d.old.under.now) cells → IfErr result (PlanSays
         (λ file cell. (after : Content) × Drafts d.new.puts (C.seen d.new.under.now) after × ((column : ℕ)
         × (column ≤ 1) × BreaksColumn after column file cell))

@@ -8,7 +8,8 @@ ghost use Rattle.pdb_column.specs.Damages.{BreaksColumn, IsFullChunk};
 ghost use Rattle.pdb_column.specs.Holding.{HoldsColumn};
 ghost use Rattle.pdb_column.specs.Maps.{ColumnMap, IsCrowded};
 ghost use Rattle.pdb_column.specs.inner.Changes.{IsChanged, IsPlaced};
-ghost use Rattle.pdb_column.specs.inner.Faults.{AnyCell, AnyTier, StepSays, step_disk_fails};
+ghost use Rattle.pdb_column.specs.Storing.{LacksSlots};
+ghost use Rattle.pdb_column.specs.inner.Faults.{AnyCell, AnyChunk, AnyTier, StepSays, step_disk_fails};
 
 use crate::fault::StepFault;
 use crate::insert::insert;
@@ -44,6 +45,9 @@ pub(crate) fn add_node<C: Cells>(
         → Drafts d.old.puts (C.seen d.old.under.now) cells → HoldsColumn cells 0 base content
         → IfErr result (StepSays AnyCell AnyTier (λ bits n. (after : Content) × Drafts d.new.puts (C.seen d.new.under.now) after
         × IsPlaced after 0 key.now bytes.now)) }
+    ensures no_slots { (cells : Content) (base : ℕ) (content : ColumnMap)
+        → Drafts d.old.puts (C.seen d.old.under.now) cells → HoldsColumn cells 0 base content
+        → IfErr result (StepSays AnyCell (LacksSlots base content key.now bytes.now 0) AnyChunk) }
     ensures faults { (cells : Content) → Drafts d.old.puts (C.seen d.old.under.now) cells
         → IfErr result (StepSays (λ file cell. (after : Content) × Drafts d.new.puts (C.seen d.new.under.now) after
         × BreaksColumn after 0 file cell)
@@ -118,6 +122,9 @@ pub(crate) fn put_plain<C: Cells>(
         → Drafts d.old.puts (C.seen d.old.under.now) cells → HoldsColumn cells 1 base content
         → IfErr result (StepSays AnyCell AnyTier (λ bits n. (after : Content) × Drafts d.new.puts (C.seen d.new.under.now) after
         × IsPlaced after 1 key.now bytes.now)) }
+    ensures no_slots { (cells : Content) (base : ℕ) (content : ColumnMap)
+        → Drafts d.old.puts (C.seen d.old.under.now) cells → HoldsColumn cells 1 base content
+        → IfErr result (StepSays AnyCell (LacksSlots base content key.now bytes.now 1) AnyChunk) }
     ensures faults { (cells : Content) → Drafts d.old.puts (C.seen d.old.under.now) cells
         → IfErr result (StepSays (λ file cell. (after : Content) × Drafts d.new.puts (C.seen d.new.under.now) after
         × BreaksColumn after 1 file cell)

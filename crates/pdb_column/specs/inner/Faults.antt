@@ -46,3 +46,7 @@ AnyTier tier = Unit {0}
 -- any cell
 abbrev pub AnyCell : ℕ → ℕ → Type 0
 AnyCell file cell = Unit {0}
+
+-- any chunk
+abbrev pub AnyChunk : ℕ → ℕ → Type 0
+AnyChunk bits chunk = Unit {0}

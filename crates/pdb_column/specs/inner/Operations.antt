@@ -5,7 +5,7 @@ use Rattle.sdb_base.specs.declared.op.Op.TheVariants.{AddRef, DropRef, Erase, Pu
 use Rattle.pdb_cells.specs.Content.{Content}
 use Rattle.pdb_model.specs.Chunks.{chunk_number}
 use Rattle.pdb_column.specs.Maps.{ColumnMap, Inserts, IsCrowded}
-use Rattle.pdb_column.specs.Storing.{Stores}
+use Rattle.pdb_column.specs.Storing.{LacksSlots, Stores}
 use Rattle.pdb_column.specs.inner.Changes.{IsPlaced}
 
 -- the column of an operation's key
@@ -26,3 +26,7 @@ pub record Crowds (bases : ℕ → ℕ) (contents : ℕ → ColumnMap) (op : Op)
 -- the operation's bytes are in the slots of their tier
 abbrev pub HasItsSlots : Content → ℕ → Op → Type 0
 HasItsSlots cells column op = (key bytes : List ℕ) × Stores column op key bytes × IsPlaced cells column key bytes
+
+-- the operation stores bytes for which this tier of a column has too few slots
+abbrev pub NeedsSlots : (ℕ → ℕ) → (ℕ → ColumnMap) → Op → ℕ → ℕ → Type 0
+NeedsSlots bases contents op column tier = (key bytes : List ℕ) × Stores column op key bytes × LacksSlots (bases column) (contents column) key bytes column tier

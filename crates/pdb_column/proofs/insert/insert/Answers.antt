@@ -11,6 +11,7 @@ use Rattle.pdb_column.proofs.Entered.{at_ok, crowded_in, full_chunk, inserted_he
 use Rattle.pdb_column.proofs.Hits.{one_draft}
 use Rattle.pdb_column.proofs.Inserting.{tier_low}
 use Rattle.pdb_column.proofs.KeyChunks.{keeps_head}
+use Rattle.pdb_column.proofs.NoSlots.{place_lacks}
 use Rattle.pdb_column.proofs.SlotsFirst.{any_says}
 use Rattle.pdb_column.proofs.insert.insert.Goals as goal
 
@@ -77,3 +78,10 @@ returns-then-is_err-clause-slots_first g c cells content drafts holds =
         there = subst (λ t. HasTable d.2.0 c.args.column t (placed (holds.picture.tables to) c.args.key.now 1 c.args.bytes.now)) c.in_ok-at.ensures.tier d.2.2;
       },
     )
+
+pub returns-in_err-at-clause-no_slots : goal.returns-in_err-at-clause-no_slots
+returns-in_err-at-clause-no_slots g c cells content drafts holds =
+    let p = err_from_is_err_and c.from_residual.result c.from_residual.ensures.1 in
+    rw (p.1, p.2) (place_lacks cells c.args.column c.args.chunk.now.base content c.args.key.now c.args.bytes.now _ holds
+    (c.in_err-at.ensures.sound cells (holds.picture.tables (tier_of (length c.args.bytes.now))) drafts (keeps_head cells c.args.column c.args.chunk.now.base content holds)
+    (holds.spelled.tables (tier_of (length c.args.bytes.now)) (tier_low (length c.args.bytes.now)))))

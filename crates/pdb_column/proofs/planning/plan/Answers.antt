@@ -7,10 +7,11 @@ use Rattle.pdb_column.specs.Answers.{PlanSays}
 use Rattle.pdb_column.specs.Damages.{BreaksColumn, IsFullChunk}
 use Rattle.pdb_column.specs.Holding.{HoldsColumns}
 use Rattle.pdb_column.specs.Maps.{ColumnMap, FillsChunk, column_from}
-use Rattle.pdb_column.specs.Storing.{HasPlaced}
+use Rattle.pdb_column.specs.Storing.{FillsTier, HasPlaced}
 use Rattle.pdb_column.specs.inner.Faults.{as_planned}
 use Rattle.pdb_column.specs.inner.Operations.{column_of}
 use Rattle.pdb_column.proofs.Planned.{column_low, more_fill, more_hold, none_fills, plan_says, plan_sound, split_at, still_drafted}
+use Rattle.pdb_column.proofs.NoSlots.{plan_lacks}
 use Rattle.pdb_column.proofs.SlotsFirst.{plan_slots}
 use Rattle.pdb_column.proofs.planning.plan.Goals as goal
 
@@ -77,6 +78,18 @@ returns-in-Err-clause-slots_first g c cells bases contents drafts holds =
     (sym (c.plan_fault.ensures ∙ ap (λ n. as_planned n c.in-Err.fault) c.column_of.ensures))
     (plan_slots (λ (x : Content). Drafts c.plan_op.new.d.puts (g.C.Cells.seen c.plan_op.new.d.under.now) x) bases contents c.args.ops.now (take i items) (drop (suc i) items) op (column_of op) c.in-Err.fault in_order
     (c.in-Err.ensures.sound at.0 bases before at.1 at.2) (c.in-Err.ensures.slots_first at.0 bases before at.1 at.2))
+
+pub returns-in-Err-clause-no_slots : goal.returns-in-Err-clause-no_slots
+returns-in-Err-clause-no_slots g c cells bases contents drafts holds =
+    let items : List Op = c.as_slice-items.result.now in
+    let i : ℕ = c.loop-op.op-index in
+    let op : Op = c.op-item.result in
+    let at = c.loop-op.invariant.planned cells bases contents drafts holds in
+    let in_order : c.args.ops.now ≡ take i items ++ op ∷ drop (suc i) items = sym c.as_slice-items.ensures ∙ split_at items i op (omega arith) c.op-item.is in
+    subst (PlanSays (λ file cell. Unit {0}) (λ u bits chunk. Unit {0}) (λ u tier. FillsTier (bases u) (contents u) c.args.ops.now u tier))
+    (sym (c.plan_fault.ensures ∙ ap (λ n. as_planned n c.in-Err.fault) c.column_of.ensures))
+    (plan_lacks bases contents c.args.ops.now (take i items) (drop (suc i) items) op (column_of op) c.in-Err.fault in_order
+    (c.in-Err.ensures.no_slots at.0 bases (λ u. column_from u (contents u) (take i items)) at.1 at.2))
 
 pub returns-clause-planned : goal.returns-clause-planned
 returns-clause-planned g c cells bases contents drafts holds =

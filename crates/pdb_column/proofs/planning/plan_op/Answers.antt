@@ -7,11 +7,13 @@ use Rattle.pdb_value.specs.Faults.{Drafts, IsFullTier, NoCell}
 use Rattle.pdb_column.specs.Damages.{BreaksColumn, IsFullChunk}
 use Rattle.pdb_column.specs.Holding.{HoldsColumns}
 use Rattle.pdb_column.specs.Maps.{column_after}
+use Rattle.pdb_column.specs.Storing.{LacksSlots}
 use Rattle.pdb_column.specs.inner.Changes.{IsPlaced}
-use Rattle.pdb_column.specs.inner.Faults.{AnyCell, AnyTier, StepSays}
-use Rattle.pdb_column.specs.inner.Operations.{Crowds, HasItsSlots, column_of}
+use Rattle.pdb_column.specs.inner.Faults.{AnyCell, AnyChunk, AnyTier, StepSays}
+use Rattle.pdb_column.specs.inner.Operations.{Crowds, HasItsSlots, NeedsSlots, column_of}
 use Rattle.pdb_column.proofs.Located.{step_more}
 use Rattle.pdb_column.proofs.Planned.{added, dropped_node, erased_under, put_under, says_in}
+use Rattle.pdb_column.proofs.NoSlots.{step_lacks, takes_none}
 use Rattle.pdb_column.proofs.SlotsFirst.{any_says}
 use Rattle.pdb_column.proofs.planning.plan_op.Goals as goal
 
@@ -108,3 +110,34 @@ pub returns-in_err-drop_key-in-Erase-clause-slots_first : goal.returns-in_err-dr
 returns-in_err-drop_key-in-Erase-clause-slots_first g c cells bases contents drafts holds =
     let p = err_from_is_err_and c.from_residual-in_err-drop_key-in-Erase.result c.from_residual-in_err-drop_key-in-Erase.ensures.1 in
     rw (p.1, p.2) (any_says _)
+
+-- ---- a tier without slots
+
+pub returns-in-AddRef-clause-no_slots : goal.returns-in-AddRef-clause-no_slots
+returns-in-AddRef-clause-no_slots g c cells bases contents drafts holds =
+    subst (λ op. IfErr c.add_node.result (StepSays AnyCell (NeedsSlots bases contents op (column_of op)) AnyChunk)) (sym c.in-AddRef.is)
+    (IfErr-weaker c.add_node.result _ (StepSays AnyCell (NeedsSlots bases contents (AddRef c.in-AddRef.key c.in-AddRef.bytes) 0) AnyChunk)
+    (λ e h. step_lacks _ (NeedsSlots bases contents (AddRef c.in-AddRef.key c.in-AddRef.bytes) 0) e
+    (λ u l. (c.in-AddRef.key.0, c.in-AddRef.bytes, (refl, refl, refl), subst (λ b. LacksSlots (bases 0) (contents 0) c.in-AddRef.key.0 b 0 u) c.as_slice.ensures l)) h)
+    (c.add_node.ensures.no_slots cells (bases 0) (contents 0) drafts (holds.each 0 (omega arith))))
+
+pub returns-in_err-drop_key-in-DropRef-clause-no_slots : goal.returns-in_err-drop_key-in-DropRef-clause-no_slots
+returns-in_err-drop_key-in-DropRef-clause-no_slots g c cells bases contents drafts holds =
+    let p = err_from_is_err_and c.from_residual.result c.from_residual.ensures.1 in
+    rw (p.1, p.2) (takes_none (NeedsSlots bases contents c.args.op.now (column_of c.args.op.now)) _
+    (c.in_err-drop_key-in-DropRef.ensures.sound cells (bases 0) (contents 0) drafts (holds.each 0 (omega arith))))
+
+pub returns-in-Put-clause-no_slots : goal.returns-in-Put-clause-no_slots
+returns-in-Put-clause-no_slots g c cells bases contents drafts holds =
+    let hashed : c.hash256-hash.result ≡ H c.in-Put.key = c.hash256-hash.ensures ∙ ap H c.as_slice-in-Put.ensures in
+    subst (λ op. IfErr c.put_plain.result (StepSays AnyCell (NeedsSlots bases contents op (column_of op)) AnyChunk)) (sym c.in-Put.is)
+    (IfErr-weaker c.put_plain.result _ (StepSays AnyCell (NeedsSlots bases contents (Put c.in-Put.key c.in-Put.bytes) 1) AnyChunk)
+    (λ e h. step_lacks _ (NeedsSlots bases contents (Put c.in-Put.key c.in-Put.bytes) 1) e
+    (λ u l. (c.hash256-hash.result, c.in-Put.bytes, (refl, sym hashed, refl), subst (λ b. LacksSlots (bases 1) (contents 1) c.hash256-hash.result b 1 u) c.as_slice-in-Put-2.ensures l)) h)
+    (c.put_plain.ensures.no_slots cells (bases 1) (contents 1) drafts (holds.each 1 (omega arith))))
+
+pub returns-in_err-drop_key-in-Erase-clause-no_slots : goal.returns-in_err-drop_key-in-Erase-clause-no_slots
+returns-in_err-drop_key-in-Erase-clause-no_slots g c cells bases contents drafts holds =
+    let p = err_from_is_err_and c.from_residual-in_err-drop_key-in-Erase.result c.from_residual-in_err-drop_key-in-Erase.ensures.1 in
+    rw (p.1, p.2) (takes_none (NeedsSlots bases contents c.args.op.now (column_of c.args.op.now)) _
+    (c.in_err-drop_key-in-Erase.ensures.sound cells (bases 1) (contents 1) drafts (holds.each 1 (omega arith))))

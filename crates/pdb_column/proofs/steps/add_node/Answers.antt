@@ -6,11 +6,13 @@ use Rattle.pdb_model.specs.Tables.{recounted}
 use Rattle.pdb_value.specs.Faults.{Drafts, HasTable, IsFullTier, NoCell, NoTier}
 use Rattle.pdb_column.specs.Holding.{HoldsColumn}
 use Rattle.pdb_column.specs.Maps.{IsCrowded}
+use Rattle.pdb_column.specs.Storing.{LacksSlots}
 use Rattle.pdb_column.specs.inner.Faults.{AnyTier}
 use Rattle.pdb_column.proofs.Entered.{place_sound}
 use Rattle.pdb_column.proofs.Hits.{one_draft}
 use Rattle.pdb_column.proofs.KeyChunks.{keeps_head}
 use Rattle.pdb_column.proofs.Located.{breaks_now, changed_as, drafts_stay, if_some_at, none_at, none_some, referenced, some_at, step_more}
+use Rattle.pdb_column.proofs.NoSlots.{step_lacks, takes_none}
 use Rattle.pdb_column.proofs.SlotsFirst.{any_says}
 use Rattle.pdb_column.proofs.steps.add_node.Goals as goal
 
@@ -105,3 +107,28 @@ pub returns-in-None-clause-slots_first : goal.returns-in-None-clause-slots_first
 returns-in-None-clause-slots_first g c cells base content drafts holds =
     let same = c.in_ok-found.ensures.same_base cells base content drafts holds in
     c.insert.ensures.slots_first cells content (c.locate.ensures.stays cells drafts) (subst (λ n. HoldsColumn cells 0 n content) (sym same) holds)
+
+-- ---- a tier without slots
+
+pub returns-in_err-found-clause-no_slots : goal.returns-in_err-found-clause-no_slots
+returns-in_err-found-clause-no_slots g c cells base content drafts holds =
+    let p = err_from_is_err_and c.from_residual.result c.from_residual.ensures.1 in
+    rw (p.1, p.2) (takes_none (LacksSlots base content c.args.key.now c.args.bytes.now 0) _ (c.in_err-found.ensures.sound cells base content drafts holds))
+
+pub returns-in_err-add_ref-in-Some-clause-no_slots : goal.returns-in_err-add_ref-in-Some-clause-no_slots
+returns-in_err-add_ref-in-Some-clause-no_slots g c cells base content drafts holds =
+    let same = c.in_ok-found.ensures.same_base cells base content drafts holds in
+    let its : HoldsColumn cells 0 c.in_ok-found.found.chunk.base content = subst (λ n. HoldsColumn cells 0 n content) (sym same) holds in
+    let at = some_at c.in_ok-found.found.hit c.in-Some.hit _ _ c.in-Some.is (c.in_ok-found.ensures.found cells content drafts its) in
+    let within = if_some_at c.in_ok-found.found.hit c.in-Some.hit _ c.in-Some.is c.in_ok-found.ensures.within in
+    let p = err_from_is_err_and c.from_residual-in_err-add_ref-in-Some.result c.from_residual-in_err-add_ref-in-Some.ensures.1 in
+    rw (p.1, p.2) (takes_none (LacksSlots base content c.args.key.now c.args.bytes.now 0) _
+    (c.in_err-add_ref-in-Some.ensures.sound cells (its.picture.tables c.in-Some.hit.at.tier) (record { key = c.args.key.now; count = at.counted.count; value = at.counted.bytes })
+    (c.locate.ensures.stays cells drafts) (keeps_head cells 0 c.in_ok-found.found.chunk.base content its) (its.spelled.tables c.in-Some.hit.at.tier (let low = within.1 in omega arith)) at.holds))
+
+pub returns-in-None-clause-no_slots : goal.returns-in-None-clause-no_slots
+returns-in-None-clause-no_slots g c cells base content drafts holds =
+    let same = c.in_ok-found.ensures.same_base cells base content drafts holds in
+    IfErr-weaker c.insert.result _ _
+    (λ e h. step_lacks _ (LacksSlots base content c.args.key.now c.args.bytes.now 0) e (λ u l. subst (λ n. LacksSlots n content c.args.key.now c.args.bytes.now 0 u) same l) h)
+    (c.insert.ensures.no_slots cells content (c.locate.ensures.stays cells drafts) (subst (λ n. HoldsColumn cells 0 n content) (sym same) holds))

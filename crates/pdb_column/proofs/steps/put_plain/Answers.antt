@@ -1,4 +1,4 @@
-use Rattle.std.proofs.Common.{◌≡◌, ◌<◌, ℕ, Some, None, refl, sym, subst, ◌∙◌, arith}
+use Rattle.std.proofs.Common.{◌≡◌, ◌<◌, ℕ, List, Some, None, refl, sym, subst, ◌∙◌, arith}
 use Rattle.std.proofs.lemmas.Result.{IfErr-weaker, err_from_is_err_and, on_ok_weaker}
 use Rattle.pdb_cells.specs.Content.{Content}
 use Rattle.pdb_value.specs.Faults.{Drafts, HasTable, IsFullTier, NoCell, NoTier}
@@ -6,6 +6,7 @@ use Rattle.pdb_model.specs.Tables.{holding}
 use Rattle.pdb_column.specs.Damages.{BreaksColumn}
 use Rattle.pdb_column.specs.Holding.{HoldsColumn}
 use Rattle.pdb_column.specs.Maps.{IsCrowded}
+use Rattle.pdb_column.specs.Storing.{LacksSlots}
 use Rattle.pdb_column.specs.inner.Changes.{IsDropped, dropped}
 use Rattle.pdb_column.specs.inner.Faults.{AnyTier}
 use Rattle.pdb_column.specs.inner.KeyChunks.{HasKeyChunk}
@@ -13,6 +14,7 @@ use Rattle.pdb_column.proofs.Entered.{place_sound}
 use Rattle.pdb_column.proofs.Hits.{one_draft}
 use Rattle.pdb_column.proofs.KeyChunks.{keeps_head}
 use Rattle.pdb_column.proofs.Located.{any_tier, breaks_now, changed_as, drafts_stay, dropped_none, has_room, if_some_at, none_at, none_some, ok_any, over_dropped, some_at, step_more, written_over}
+use Rattle.pdb_column.proofs.NoSlots.{lacks_undropped, step_lacks, takes_none}
 use Rattle.pdb_column.proofs.SlotsFirst.{any_says}
 use Rattle.pdb_column.proofs.steps.put_plain.Goals as goal
 
@@ -204,3 +206,51 @@ returns-clause-slots_first g c cells base content drafts holds =
     let still = drafts_stay _ _ _ _ cells (c.in_ok-done.ensures.nothing c.if-done.false) (λ below. g.met.C.Cells.stays _ _ below c.replace.ensures.keeps) (c.locate.ensures.stays cells drafts) in
     let d = c.in_ok-remove.ensures.dropped cells content c.args.key.now still its (c.in_ok-found.ensures.spelled cells drafts) c.in_ok-found.ensures.number.0 hit at in
     c.insert-2.ensures.slots_first d.0 (dropped content c.args.key.now) d.1 (subst (λ n. HoldsColumn d.0 1 n (dropped content c.args.key.now)) (sym c.remove.ensures.base.0) d.2.holds)
+
+-- ---- a tier without slots
+
+pub returns-in_err-found-clause-no_slots : goal.returns-in_err-found-clause-no_slots
+returns-in_err-found-clause-no_slots g c cells base content drafts holds =
+    let p = err_from_is_err_and c.from_residual.result c.from_residual.ensures.1 in
+    rw (p.1, p.2) (takes_none (LacksSlots base content c.args.key.now c.args.bytes.now 1) _ (c.in_err-found.ensures.sound cells base content drafts holds))
+
+pub returns-in_default-clause-no_slots : goal.returns-in_default-clause-no_slots
+returns-in_default-clause-no_slots g c cells base content drafts holds =
+    let same = c.in_ok-found.ensures.same_base cells base content drafts holds in
+    IfErr-weaker c.insert.result _ _
+    (λ e h. step_lacks _ (LacksSlots base content c.args.key.now c.args.bytes.now 1) e (λ u l. subst (λ n. LacksSlots n content c.args.key.now c.args.bytes.now 1 u) same l) h)
+    (c.insert.ensures.no_slots cells content (c.locate.ensures.stays cells drafts) (subst (λ n. HoldsColumn cells 1 n content) (sym same) holds))
+
+pub returns-in_err-done-clause-no_slots : goal.returns-in_err-done-clause-no_slots
+returns-in_err-done-clause-no_slots g c cells base content drafts holds =
+    let same = c.in_ok-found.ensures.same_base cells base content drafts holds in
+    let its : HoldsColumn cells 1 c.in_ok-found.found.chunk.base content = subst (λ n. HoldsColumn cells 1 n content) (sym same) holds in
+    let at = some_at c.in_ok-found.found.hit c.in-Some.hit _ _ c.in-Some.is (c.in_ok-found.ensures.found cells content drafts its) in
+    let within = if_some_at c.in_ok-found.found.hit c.in-Some.hit _ c.in-Some.is c.in_ok-found.ensures.within in
+    let p = err_from_is_err_and c.from_residual-in_err-done.result c.from_residual-in_err-done.ensures.1 in
+    rw (p.1, p.2) (takes_none (LacksSlots base content c.args.key.now c.args.bytes.now 1) _
+    (c.in_err-done.ensures.sound cells (its.picture.tables c.in-Some.hit.at.tier) (record { key = c.args.key.now; count = at.counted.count; value = at.counted.bytes })
+    (c.locate.ensures.stays cells drafts) (keeps_head cells 1 c.in_ok-found.found.chunk.base content its) (its.spelled.tables c.in-Some.hit.at.tier (let low = within.1 in omega arith)) at.holds))
+
+pub returns-in_err-remove-clause-no_slots : goal.returns-in_err-remove-clause-no_slots
+returns-in_err-remove-clause-no_slots g c cells base content drafts holds =
+    let same = c.in_ok-found.ensures.same_base cells base content drafts holds in
+    let its : HoldsColumn cells 1 c.in_ok-found.found.chunk.base content = subst (λ n. HoldsColumn cells 1 n content) (sym same) holds in
+    let at = some_at c.in_ok-found.found.hit c.in-Some.hit _ _ c.in-Some.is (c.in_ok-found.ensures.found cells content drafts its) in
+    let still = drafts_stay _ _ _ _ cells (c.in_ok-done.ensures.nothing c.if-done.false) (λ below. g.met.C.Cells.stays _ _ below c.replace.ensures.keeps) (c.locate.ensures.stays cells drafts) in
+    let p = err_from_is_err_and c.from_residual-in_err-remove.result c.from_residual-in_err-remove.ensures.1 in
+    rw (p.1, p.2) (takes_none (LacksSlots base content c.args.key.now c.args.bytes.now 1) _ (c.in_err-remove.ensures.sound cells c.in_ok-found.found.chunk.base content c.args.key.now still its at))
+
+pub returns-clause-no_slots : goal.returns-clause-no_slots
+returns-clause-no_slots g c cells base content drafts holds =
+    let key : List ℕ = c.args.key.now in
+    let same = c.in_ok-found.ensures.same_base cells base content drafts holds in
+    let its : HoldsColumn cells 1 c.in_ok-found.found.chunk.base content = subst (λ n. HoldsColumn cells 1 n content) (sym same) holds in
+    let hit = if_some_at c.in_ok-found.found.hit c.in-Some.hit _ c.in-Some.is c.in_ok-found.ensures.hit in
+    let at = some_at c.in_ok-found.found.hit c.in-Some.hit _ _ c.in-Some.is (c.in_ok-found.ensures.found cells content drafts its) in
+    let still = drafts_stay _ _ _ _ cells (c.in_ok-done.ensures.nothing c.if-done.false) (λ below. g.met.C.Cells.stays _ _ below c.replace.ensures.keeps) (c.locate.ensures.stays cells drafts) in
+    let d = c.in_ok-remove.ensures.dropped cells content key still its (c.in_ok-found.ensures.spelled cells drafts) c.in_ok-found.ensures.number.0 hit at in
+    IfErr-weaker c.insert-2.result _ _
+    (λ e h. step_lacks _ (LacksSlots base content key c.args.bytes.now 1) e
+    (λ u l. lacks_undropped base content key c.args.bytes.now 1 u (subst (λ n. LacksSlots n (dropped content key) key c.args.bytes.now 1 u) (c.remove.ensures.base.0 ∙ same) l)) h)
+    (c.insert-2.ensures.no_slots d.0 (dropped content key) d.1 (subst (λ n. HoldsColumn d.0 1 n (dropped content key)) (sym c.remove.ensures.base.0) d.2.holds))
