@@ -19,3 +19,4 @@ pub mod StageAfter
 pub mod StageLogged
 pub mod StageRoom
 pub mod StageDue
+pub mod DueSince

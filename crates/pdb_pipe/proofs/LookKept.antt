@@ -1,9 +1,8 @@
 -- A look-up keeps what a database stands for, and how far its commits have come.
-use Rattle.std.proofs.Common.{◌≡◌, ◌++◌, ℕ, List, Bool, Result, Ok, Err, inl, inr, sym, ap, subst, ◌∙◌, arith}
-use Rattle.std.specs.Prelude.{IfErr, slice_index}
+use Rattle.std.proofs.Common.{◌≡◌, ◌++◌, ℕ, List, Bool, sym, ap, subst, ◌∙◌, arith}
+use Rattle.std.specs.Prelude.{slice_index}
 use mathlib.Core.Path.{fun_ext}
-use Rattle.sdb_base.specs.Keeping.{Commits, IsCause}
-use Rattle.sdb_base.specs.declared.numbers.KeepFault.{KeepFault}
+use Rattle.sdb_base.specs.Keeping.{Commits}
 use Rattle.sdb_base.specs.Pipeline.{Pipeline}
 use Rattle.pdb_cells.specs.Content.{Content}
 use Rattle.pdb_column.specs.Holding.{HoldsColumns}
@@ -11,9 +10,9 @@ use Rattle.pdb_disk.specs.Files.{Files}
 use Rattle.pdb_redo.specs.Reaches.{Reach, reach_of}
 use Rattle.pdb_redo.specs.Standing.{cells_under_records}
 use Rattle.pdb_redo.proofs.Kept.{keeps_cells, keeps_going, keeps_reach, keeps_standing, keeps_stopped}
+use Rattle.pdb_redo.proofs.Tallies.{keeps_tally}
 use Rattle.pdb_pipe.specs.Commits.{contents_of}
-use Rattle.pdb_pipe.specs.Faults.{WasBefore}
-use Rattle.pdb_pipe.specs.Going.{ComesAfter, ComesAfterWith}
+use Rattle.pdb_pipe.specs.Going.{ComesAfter, ComesAfterWith, LeavesDisk}
 use Rattle.pdb_pipe.specs.Standing.{StandsFor, bases_of, fixed_index, pipeline_of}
 use Rattle.pdb_pipe.specs.declared.database.Database.{Database}
 use Rattle.pdb_pipe.specs.inner.After.{with_itself}
@@ -29,13 +28,13 @@ pipeline_with r accepted cleaned bases = record {
 }
 
 module _ {D : Type 0} (tells : D → Bool) (clock : D → ℕ) (past : D → ℕ → Files) (fault_count : D → ℕ) (a b : Database D) (k : KeepsDatabase tells clock past fault_count a b) where
-  reach_kept : reach_of b.redo ≡ reach_of a.redo
+  pub reach_kept : reach_of b.redo ≡ reach_of a.redo
   reach_kept = keeps_reach tells clock past fault_count a.redo b.redo k.redo
 
-  cells_kept : cells_under_records clock past b.redo ≡ cells_under_records clock past a.redo
+  pub cells_kept : cells_under_records clock past b.redo ≡ cells_under_records clock past a.redo
   cells_kept = fun_ext (λ file. fun_ext (λ index. keeps_cells tells clock past fault_count a.redo b.redo k.redo file index))
 
-  bases_kept : bases_of b ≡ bases_of a
+  pub bases_kept : bases_of b ≡ bases_of a
   bases_kept = fun_ext (λ column. ap (λ (bs : List ℕ). slice_index bs column) k.bases)
 
   pub kept_stands : (commits : Commits) → StandsFor tells clock past a commits → StandsFor tells clock past b commits
@@ -67,10 +66,13 @@ module _ {D : Type 0} (tells : D → Bool) (clock : D → ℕ) (past : D → ℕ
   pub kept_later : (commits : Commits) → ComesAfterWith clock past fault_count a commits b commits
   kept_later commits = (kept_after, (with_itself clock past fault_count a commits).1)
 
-  -- so a fault that was due before the reads is due after them
-  pub due_since : {T : Type 0} (r : Result T KeepFault) (P : Database D → KeepFault → Type 0) → IfErr r (IsCause (P a))
-      → IfErr r (IsCause (λ fault. WasBefore tells clock past fault_count b (λ old. P old fault)))
-  due_since (Ok t) P cause = tt
-  due_since (Err e) P (inl memory) = inl memory
-  due_since (Err e) P (inr (inl disk)) = inr (inl disk)
-  due_since (Err e) P (inr (inr due)) = inr (inr (a, k, due))
+  pub kept_outside : LeavesDisk clock past fault_count a b
+  kept_outside = record {
+    time = k.redo.time;
+    unchanged = k.redo.unchanged;
+    faults = k.redo.faults;
+    reads = k.redo.reads;
+    stopped = keeps_stopped tells clock past fault_count a.redo b.redo k.redo;
+    reach = reach_kept;
+    tally = keeps_tally tells clock past fault_count a.redo b.redo k.redo;
+  }

@@ -1,15 +1,14 @@
 -- The cells of a database without keys hold nothing.
-use Rattle.std.proofs.Common.{◌≡◌, ℕ, zero, suc, ◌+◌, ◌-◌, ◌*◌, ◌^◌, ◌%◌, ◌≤◌, ◌<◌, ⊎_elim, List, [], ◌∷◌, take, drop, Some, None, refl, sym, ◌∙◌, ap, ap₂, subst, arith}
+use Rattle.std.proofs.Common.{◌≡◌, ℕ, zero, suc, ◌+◌, ◌-◌, ◌*◌, ◌^◌, ◌%◌, ◌≤◌, ◌<◌, ⊎_elim, List, [], take, drop, Some, None, refl, sym, ◌∙◌, ap, ap₂, subst, arith}
 use Rattle.std.specs.Prelude.{replicate, slice_get}
 use Rattle.std.proofs.lemmas.Bool.{cases_eq}
 use Rattle.std.proofs.lemmas.List.{drop-replicate, take-replicate}
 use Rattle.std.proofs.lemmas.List.Elements.{All-replicate}
-use Rattle.sdb_base.specs.Content.{Counted}
 use Rattle.pdb_model.specs.Chunks.{IsChunk}
 use Rattle.pdb_model.specs.Columns.{Column, HasEntry, HoldsContent, IsColumn, Place, SpellsColumn, SpellsIndex}
-use Rattle.pdb_model.specs.Files.{index_file, table_cells}
-use Rattle.pdb_model.specs.Heads.{Ends, Head, IsHead, SpellsHead, ends_at, ends_bytes}
-use Rattle.pdb_model.specs.Tables.{IsTable, Outside, SpellsTable, Table}
+use Rattle.pdb_model.specs.Files.{index_file}
+use Rattle.pdb_model.specs.Heads.{Head, IsHead, SpellsHead, ends_at, ends_bytes}
+use Rattle.pdb_model.specs.Tables.{IsTable, Outside, Table}
 use Rattle.pdb_column.specs.Holding.{HoldsColumn, HoldsColumns}
 use Rattle.pdb_redo.specs.Creating.{new_cells, new_head}
 use Rattle.pdb_pipe.specs.Commits.{contents_of}

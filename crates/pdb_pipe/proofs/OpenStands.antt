@@ -1,13 +1,12 @@
 -- A database over a redo of one row stands for the commits of that row.
-use Rattle.std.proofs.Common.{◌≡◌, ℕ, zero, suc, ◌≤◌, List, [], ◌∷◌, ◌++◌, length, None, refl, sym, ◌∙◌, ap, arith}
+use Rattle.std.proofs.Common.{◌≡◌, ℕ, zero, suc, ◌≤◌, List, [], ◌∷◌, ◌++◌, length, refl, sym, ◌∙◌, ap, arith}
 use Rattle.std.specs.Prelude.{Bool, slice_index}
 use Rattle.std.proofs.lemmas.List.{append-nil}
 use Rattle.sdb_base.specs.Keeping.{Commits}
-use Rattle.pdb_cells.specs.Content.{Content}
 use Rattle.pdb_disk.specs.Files.{Files}
 use Rattle.pdb_model.specs.Recovery.{Row}
 use Rattle.pdb_column.specs.Holding.{HoldsColumns}
-use Rattle.pdb_redo.specs.Creating.{new_cells, new_row}
+use Rattle.pdb_redo.specs.Creating.{new_row}
 use Rattle.pdb_redo.specs.Standing.{IsStanding, cells_under_records}
 use Rattle.pdb_redo.proofs.Kept.{standing_commits, standing_tells}
 use Rattle.pdb_redo.proofs.Redos.{last_cells}

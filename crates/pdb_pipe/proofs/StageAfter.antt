@@ -1,5 +1,5 @@
 -- What comes after a call of a redo.
-use Rattle.std.proofs.Common.{◌≡◌, ◌≤◌, ◌+◌, ◌-◌, ◌^◌, ℕ, Bool, true, false, Option, None, Some, Result, Err, refl, sym, ap, arith, append-nil}
+use Rattle.std.proofs.Common.{◌≡◌, ◌≤◌, ◌-◌, ◌^◌, ℕ, Bool, true, false, Option, None, Some, Result, Err, refl, sym, ap, arith, append-nil}
 use Rattle.std.specs.Prelude.{[]}
 use Rattle.sdb_io.specs.Faults.{CountsFault}
 use Rattle.sdb_base.specs.Keeping.{Commits}

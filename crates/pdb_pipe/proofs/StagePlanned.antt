@@ -11,7 +11,7 @@ use Rattle.pdb_value.specs.Faults.{Drafts, IsFullTier}
 use Rattle.pdb_column.specs.Answers.{PlanSays, plan_disk_fails}
 use Rattle.pdb_column.specs.Damages.{BreaksColumn, IsFullChunk}
 use Rattle.pdb_column.specs.Maps.{ColumnMap, FillsChunk}
-use Rattle.pdb_column.specs.Storing.{HasPlaced}
+use Rattle.pdb_column.specs.Storing.{FillsTier, HasPlaced}
 use Rattle.pdb_column.specs.declared.fault.PlanFault.{PlanFault}
 use Rattle.pdb_column.specs.declared.fault.PlanFault.TheVariants.{ChunkFull, Damaged, Disk, OutOfMemory, TierFull}
 use Rattle.pdb_pipe.specs.Planning.{IsPlanFault, PlanEnds}
@@ -36,13 +36,14 @@ plan_counts (TierFull column tier) before after h = h
 pub plan_ends : (puts : List Put) (seen : Option Content) (cells : Content) (bases : ℕ → ℕ) (contents : ℕ → ColumnMap) (ops : List Op) (e : PlanFault) → seen ≡ Some cells
     → PlanSays (λ file cell. ⊥) (λ column bits chunk. FillsChunk (bases column) (contents column) ops column bits chunk) (λ column tier. Unit {0}) e
     → PlanSays (λ file cell. Unit {0}) (λ column bits chunk. (after : Content) × Drafts puts seen after × HasPlaced after (bases column) (contents column) ops column bits chunk) (λ column tier. Unit {0}) e
+    → PlanSays (λ file cell. Unit {0}) (λ column bits chunk. Unit {0}) (λ column tier. FillsTier (bases column) (contents column) ops column tier) e
     → PlanEnds cells bases contents ops (plan_as e)
-plan_ends puts seen cells bases contents ops OutOfMemory at sound placed = tt
-plan_ends puts seen cells bases contents ops Disk at sound placed = tt
-plan_ends puts seen cells bases contents ops (Damaged file cell) at sound placed = sound
-plan_ends puts seen cells bases contents ops (ChunkFull column bits chunk) at sound placed =
+plan_ends puts seen cells bases contents ops OutOfMemory at sound placed few = tt
+plan_ends puts seen cells bases contents ops Disk at sound placed few = tt
+plan_ends puts seen cells bases contents ops (Damaged file cell) at sound placed few = sound
+plan_ends puts seen cells bases contents ops (ChunkFull column bits chunk) at sound placed few =
     (puts, subst (λ (x : Content). HasPlaced x (bases column) (contents column) ops column bits chunk) (laid_there puts seen cells placed.0 at placed.1) placed.2)
-plan_ends puts seen cells bases contents ops (TierFull column tier) at sound placed = tt
+plan_ends puts seen cells bases contents ops (TierFull column tier) at sound placed few = few
 
 -- what a fault of a plan says of the cells, in whichever way they are observable
 abbrev pub SaysOf : List Put → Option Content → PlanFault → Type 0

@@ -1,7 +1,6 @@
 -- Which faults are due for a call on a database.
-use Rattle.std.specs.Prelude.{◌≡◌, ◌≢◌, ◌⊎◌, ◌<◌, ◌+◌, ◌-◌, ◌^◌, ℕ, Bool, true, false, List, length, if◌then◌else◌, Option, Some, None, Result, Ok, Err}
+use Rattle.std.specs.Prelude.{◌≡◌, ◌≢◌, ◌⊎◌, ◌<◌, ◌+◌, ◌-◌, ◌^◌, ℕ, All, Bool, List, length, if◌then◌else◌, Option, Some, None, Result, Ok, Err}
 use Rattle.sdb_base.specs.Keeping.{Commits}
-use Rattle.sdb_base.specs.declared.Counter.{Counter}
 use Rattle.sdb_base.specs.declared.Counter.TheVariants as counters
 use Rattle.sdb_base.specs.declared.numbers.KeeperCall.{KeeperCall}
 use Rattle.sdb_base.specs.declared.numbers.KeeperCall.TheVariants as calls
@@ -10,15 +9,16 @@ use Rattle.sdb_base.specs.declared.numbers.Logged.{Logged}
 use Rattle.sdb_base.specs.declared.numbers.KeepFault.TheVariants.{OutOfMemory, Disk, Stopped, ValueTooLong, IndexFull, TierFull, Damaged, NumbersEnd}
 use Rattle.sdb_base.specs.declared.op.Op.{Op}
 use Rattle.pdb_cells.specs.Content.{Content}
+use Rattle.pdb_cells.specs.Puts.{IsWholeCell, NoCellTwice}
 use Rattle.pdb_cells.specs.declared.puts.Put.{Put}
+use Rattle.pdb_column.specs.Storing.{FillsTier}
 use Rattle.pdb_disk.specs.Files.{Files}
 use Rattle.pdb_log.specs.Standing.{end_of_log}
 use Rattle.pdb_model.specs.Logs.{most_in_log}
 use Rattle.pdb_model.specs.Records.{record_bytes}
 use Rattle.pdb_redo.specs.Reaches.{reach_of}
-use Rattle.pdb_redo.specs.Standing.{KeepsRedo, cells_under_records, next_redo_record}
+use Rattle.pdb_redo.specs.Standing.{KeepsRedo, cells_under_records}
 use Rattle.pdb_pipe.specs.Commits.{contents_of}
-use Rattle.pdb_pipe.specs.Keeping.{KeepsDatabase}
 use Rattle.pdb_pipe.specs.Planning.{IsCrowdedAt, IsPlanFault}
 use Rattle.pdb_pipe.specs.Reads.{NamesDamage}
 use Rattle.pdb_pipe.specs.Stages.{IsNextCommit, logged_of}
@@ -37,11 +37,16 @@ IsStoppedBy db fault = (call : ℕ) × (fault ≡ Stopped call) × (db.redo.stop
 abbrev pub EndsCommits : {D : Type 0} → Database D → KeepFault → Type 0
 EndsCommits db fault = (fault ≡ NumbersEnd counters.Commits) × (db.accepted ≡ 2 ^ 64 - 1)
 
+-- a log file of so many bytes would pass its most bytes by some record of this number with so many commits
+abbrev pub PassesLog : ℕ → ℕ → ℕ → Type 0
+PassesLog bytes number commits = (puts : List Put) × All IsWholeCell puts × NoCellTwice puts
+    × (most_in_log < bytes + length (record_bytes (record { number = number; commits = commits; puts = puts })))
+
 -- the records can't be one more, or the log file would pass its most bytes by the next one
 abbrev pub EndsLog : {D : Type 0} → Database D → KeepFault → Type 0
 EndsLog db fault = ((fault ≡ NumbersEnd counters.Records) × ((db.redo.appended.number ≡ 2 ^ 64 - 1) ⊎ (db.redo.log.number ≡ 2 ^ 64 - 1)))
-    ⊎ ((fault ≡ NumbersEnd counters.LogBytes) × ((puts : List Put)
-    × (most_in_log < end_of_log db.redo.log + length (record_bytes (next_redo_record db.redo ((reach_of db.redo).logged + 1) puts)))))
+    ⊎ ((fault ≡ NumbersEnd counters.LogBytes)
+    × PassesLog (end_of_log db.redo.log) (db.redo.appended.number + 1) ((reach_of db.redo).logged + 1))
 
 -- records were enacted since the gate was last moved, and it can't be moved once more
 abbrev pub IsAtLastGate : {D : Type 0} → Database D → KeepFault → Type 0
@@ -53,6 +58,12 @@ IsCrowdedNext tells clock past db fault = (column bits chunk : ℕ) (commits : C
     → StandsFor tells clock past db commits → IsNextCommit db commits ops
     → IsCrowdedAt (cells_under_records clock past db.redo) (bases_of db) (contents_of (logged_of db commits)) ops column bits chunk
 
+-- the next commit comes to a tier with too few slots, where the database stands for commits
+abbrev pub IsFullNext : {D : Type 0} → (D → Bool) → (D → ℕ) → (D → ℕ → Files) → Database D → KeepFault → Type 0
+IsFullNext tells clock past db fault = (column tier : ℕ) (commits : Commits) (ops : List Op) → fault ≡ TierFull column tier
+    → StandsFor tells clock past db commits → IsNextCommit db commits ops
+    → FillsTier (bases_of db column) (contents_of (logged_of db commits) column) ops column tier
+
 -- a cell is damaged only where the database stands for no commits
 abbrev pub IsNoDamage : {D : Type 0} → (D → Bool) → (D → ℕ) → (D → ℕ → Files) → Database D → KeepFault → Type 0
 IsNoDamage tells clock past db fault = (file cell : ℕ) (commits : Commits) → fault ≡ Damaged file cell → StandsFor tells clock past db commits → ⊥
@@ -60,27 +71,22 @@ IsNoDamage tells clock past db fault = (file cell : ℕ) (commits : Commits) →
 -- the operations of the next commit can't be planned over the cells
 abbrev pub CannotBePlanned : {D : Type 0} → (D → Bool) → (D → ℕ) → (D → ℕ → Files) → Database D → KeepFault → Type 0
 CannotBePlanned tells clock past db fault = IsPlanFault (seen_cells tells clock past db) fault
-    × IsCrowdedNext tells clock past db fault × IsNoDamage tells clock past db fault
+    × IsCrowdedNext tells clock past db fault × IsFullNext tells clock past db fault × IsNoDamage tells clock past db fault
 
 -- a cell of a column is damaged, which is so only where the database stands for no commits
 abbrev pub IsDamaged : {D : Type 0} → (D → Bool) → (D → ℕ) → (D → ℕ → Files) → Database D → ℕ → KeepFault → Type 0
 IsDamaged tells clock past db column fault = NamesDamage (seen_cells tells clock past db) column fault × IsNoDamage tells clock past db fault
 
--- as the database was before reads made this one of it
-abbrev pub WasBefore : {D : Type 0} → (D → Bool) → (D → ℕ) → (D → ℕ → Files) → (D → ℕ) → Database D → (Database D → Type 0) → Type 0
-WasBefore {D} tells clock past fault_count db P = (old : Database D) × KeepsDatabase tells clock past fault_count old db × P old
-
--- The fault is due for this call, as the database now is; a damage, and a plan that fails, as it was before the reads of the
--- call. Want of memory and the disk's own faults aren't meant here.
-abbrev pub IsDue : {D : Type 0} → (D → Bool) → (D → ℕ) → (D → ℕ → Files) → (D → ℕ) → Database D → KeeperCall → KeepFault → Type 0
-IsDue tells clock past fault_count db calls.Node fault = WasBefore tells clock past fault_count db (λ old. IsDamaged tells clock past old 0 fault)
-IsDue tells clock past fault_count db calls.Meta fault = WasBefore tells clock past fault_count db (λ old. IsDamaged tells clock past old 1 fault)
-IsDue tells clock past fault_count db calls.Commit fault = IsStoppedBy db fault ⊎ EndsCommits db fault
-IsDue tells clock past fault_count db calls.Log fault = IsStoppedBy db fault ⊎ (EndsLog db fault ⊎ WasBefore tells clock past fault_count db (λ old. CannotBePlanned tells clock past old fault))
-IsDue tells clock past fault_count db calls.Flush fault = IsStoppedBy db fault
-IsDue tells clock past fault_count db calls.Enact fault = IsStoppedBy db fault
-IsDue tells clock past fault_count db calls.Clean fault = IsStoppedBy db fault ⊎ IsAtLastGate db fault
-IsDue tells clock past fault_count db calls.Grow fault = IsStoppedBy db fault
+-- The fault is due for this call, as the database now is. Want of memory and the disk's own faults aren't meant here.
+abbrev pub IsDue : {D : Type 0} → (D → Bool) → (D → ℕ) → (D → ℕ → Files) → Database D → KeeperCall → KeepFault → Type 0
+IsDue tells clock past db calls.Node fault = IsDamaged tells clock past db 0 fault
+IsDue tells clock past db calls.Meta fault = IsDamaged tells clock past db 1 fault
+IsDue tells clock past db calls.Commit fault = IsStoppedBy db fault ⊎ EndsCommits db fault
+IsDue tells clock past db calls.Log fault = IsStoppedBy db fault ⊎ (EndsLog db fault ⊎ CannotBePlanned tells clock past db fault)
+IsDue tells clock past db calls.Flush fault = IsStoppedBy db fault
+IsDue tells clock past db calls.Enact fault = IsStoppedBy db fault
+IsDue tells clock past db calls.Clean fault = IsStoppedBy db fault ⊎ IsAtLastGate db fault
+IsDue tells clock past db calls.Grow fault = IsStoppedBy db fault
 
 -- A call of a database that wasn't stopped: it is stopped after it just where a write, cut or sync failed, by the number of that call,
 -- and then it answered that the disk failed.

@@ -1,5 +1,5 @@
 -- What creating and opening a database answer.
-use Rattle.std.specs.Prelude.{◌≡◌, ℕ, Bool, false, List, length, Result, Ok, Err}
+use Rattle.std.specs.Prelude.{◌≡◌, ℕ, Bool, false, length, Result, Ok, Err}
 use Rattle.sdb_base.specs.Keeping.{Commits}
 use Rattle.pdb_disk.specs.Files.{Image}
 use Rattle.pdb_model.specs.Recovery.{Laid, Row}

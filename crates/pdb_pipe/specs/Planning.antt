@@ -9,7 +9,7 @@ use Rattle.pdb_cells.specs.declared.puts.Put.{Put}
 use Rattle.pdb_value.specs.Faults.{IsFullTier}
 use Rattle.pdb_column.specs.Damages.{BreaksColumn, IsFullChunk}
 use Rattle.pdb_column.specs.Maps.{ColumnMap, FillsChunk}
-use Rattle.pdb_column.specs.Storing.{HasPlaced}
+use Rattle.pdb_column.specs.Storing.{FillsTier, HasPlaced}
 
 -- no chunk is without room for an operation that comes to it
 abbrev pub HasRoomFor : (ℕ → ℕ) → (ℕ → ColumnMap) → List Op → Type 0
@@ -27,7 +27,7 @@ PlanEnds cells bases contents ops Disk = Unit {0}
 PlanEnds cells bases contents ops (Stopped call) = ⊥
 PlanEnds cells bases contents ops (ValueTooLong len) = ⊥
 PlanEnds cells bases contents ops (IndexFull column bits chunk) = IsCrowdedAt cells bases contents ops column bits chunk
-PlanEnds cells bases contents ops (TierFull column tier) = Unit {0}
+PlanEnds cells bases contents ops (TierFull column tier) = FillsTier (bases column) (contents column) ops column tier
 PlanEnds cells bases contents ops (Damaged file cell) = ⊥
 PlanEnds cells bases contents ops (NumbersEnd which) = ⊥
 

@@ -1,5 +1,5 @@
 -- What a look-up in a column costs, and of which faults it tells.
-use Rattle.std.specs.Prelude.{◌≡◌, ◌+◌, ◌≤◌, ℕ, List, length, Option, Some, None}
+use Rattle.std.specs.Prelude.{◌≡◌, ◌+◌, ℕ, List, length, Option, Some, None}
 use Rattle.sdb_base.specs.declared.numbers.KeepFault.{KeepFault}
 use Rattle.sdb_base.specs.declared.numbers.KeepFault.TheVariants.{Damaged}
 use Rattle.pdb_cells.specs.Content.{Content}

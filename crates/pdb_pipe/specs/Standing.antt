@@ -1,12 +1,11 @@
 -- For which commits a database stands, and how far they have come.
-use Rattle.std.specs.Prelude.{◌≡◌, ◌++◌, ℕ, Bool, List, [], length, slice_index, None, IsTrue}
+use Rattle.std.specs.Prelude.{◌≡◌, ◌++◌, ℕ, Bool, List, [], ◌∷◌, length, slice_index, None, IsTrue}
 use Rattle.sdb_base.specs.Keeping.{Commits}
 use Rattle.sdb_base.specs.Pipeline.{Growth, Pipeline}
-use Rattle.pdb_cells.specs.Content.{Content}
 use Rattle.pdb_disk.specs.Files.{Files}
 use Rattle.pdb_model.specs.Recovery.{Row}
 use Rattle.pdb_column.specs.Holding.{HoldsColumns}
-use Rattle.pdb_redo.specs.Reaches.{Reach, reach_of}
+use Rattle.pdb_redo.specs.Reaches.{reach_of}
 use Rattle.pdb_redo.specs.Standing.{IsStanding, cells_under_records}
 use Rattle.pdb_pipe.specs.Commits.{contents_of}
 use Rattle.pdb_pipe.specs.declared.database.Database.{Database}
@@ -14,6 +13,10 @@ use Rattle.pdb_pipe.specs.declared.database.Database.{Database}
 -- the bases of the columns: the bits that an index's entries leave out at the front
 abbrev pub bases_of : {D : Type 0} → Database D → ℕ → ℕ
 bases_of db column = slice_index db.bases column
+
+-- both columns have this base
+abbrev pub same_bases : ℕ → ℕ → ℕ
+same_bases base column = slice_index (base ∷ base ∷ []) column
 
 -- an index that doesn't grow has the bits of its base
 abbrev pub fixed_index : ℕ → Growth

@@ -11,7 +11,9 @@ ghost use Rattle.pdb_recover.specs.Answers.{GatesEnd, OpenSays};
 ghost use Rattle.pdb_redo.specs.Answers.{CreateSays};
 ghost use Rattle.pdb_redo.specs.declared.fault.CreateCause.{CreateCause};
 ghost use Rattle.pdb_redo.specs.Creating.{HasNoGate, IsNoneOrNew};
+ghost use Rattle.pdb_log.specs.Tallies.{no_tally};
 ghost use Rattle.pdb_redo.specs.Reaches.{reach_of};
+ghost use Rattle.pdb_redo.specs.Tallies.{IsRedoTally};
 ghost use Rattle.pdb_pipe.specs.inner.OpenOnce.{never_fall_once, storable_once};
 ghost use Rattle.pdb_pipe.specs.inner.Order.{NumbersRise};
 
@@ -43,7 +45,7 @@ pub struct Database<D> {
 
 impl<D: Disk> Database<D> {
     ghost use Rattle.pdb_pipe.specs.Opening.{HoldsCommits, creating_disk_fails, disk_of_creating, disk_of_opening, opening_disk_fails};
-    ghost use Rattle.pdb_pipe.specs.Standing.{StandsFor, bases_of, pipeline_at, pipeline_of};
+    ghost use Rattle.pdb_pipe.specs.Standing.{StandsFor, bases_of, pipeline_at, pipeline_of, same_bases};
 
     /// Makes a database without keys on a disk; both columns have this base, at most 16. `Occupied` comes exactly where a gate
     /// slot is whole, and then nothing was changed.
@@ -51,7 +53,8 @@ impl<D: Disk> Database<D> {
         requires { base ≤ 16 }
         ensures created { IsTrue (D.tells disk) → IfOk result (λ db. StandsFor D.tells D.clock D.past db []) }
         ensures pipeline { IfOk result (λ db. pipeline_of db ≡ pipeline_at 0 (bases_of db)) }
-        ensures bases { IfOk result (λ db. (column : ℕ) → column ≤ 1 → bases_of db column ≡ base) }
+        ensures bases { IfOk result (λ db. bases_of db ≡ same_bases base) }
+        ensures tally { IfOk result (λ db. IsRedoTally db.redo no_tally) }
         ensures running { IfOk result (λ db. db.redo.stopped ≡ None) }
         ensures untouched { IfErr result (λ e. e.fault ≡ CreateCause.Occupied
             → (D.clock e.disk ≡ D.clock disk) × (D.past e.disk ≡ D.past disk)) }
@@ -60,6 +63,7 @@ impl<D: Disk> Database<D> {
             (IsNoneOrNew base) }
         ensures free { IsTrue (D.tells disk) → OnOk result (HasNoGate (reads_of (D.past disk (D.clock disk)))) }
         ensures causes { IsTrue (D.tells disk) → IfErr result (λ e. CreateSays (reads_of (D.past disk (D.clock disk))) e.fault) }
+        ensures later { D.clock disk ≤ D.clock (disk_of_creating result) }
         ensures told { IsTrue (D.tells disk) → IsTrue (D.tells (disk_of_creating result)) }
         ensures counted { CountsFault (creating_disk_fails result) (D.fault_count disk) (D.fault_count (disk_of_creating result)) }
     {

@@ -17,10 +17,10 @@ impl<D: Disk> Keeper for Database<D> {
     ghost use Rattle.std.specs.Prelude.{Some};
     ghost use Rattle.pdb_pipe.specs.Commits.{NodesAgree, HashesApart, IsClearCall};
     ghost use Rattle.pdb_pipe.specs.Faults.{IsDamaged, IsDue};
-    ghost use Rattle.pdb_pipe.specs.Going.{ComesAfter, ComesAfterWith};
+    ghost use Rattle.pdb_pipe.specs.Going.{ComesAfter, ComesAfterWith, LeavesDisk};
     ghost use Rattle.pdb_pipe.specs.Reads.{most_reads, reads_for};
     ghost use Rattle.pdb_pipe.specs.Standing.{StandsFor, pipeline_of};
-    ghost use Rattle.pdb_pipe.specs.inner.After.{after_itself, after_on, after_rises, with_itself, with_on};
+    ghost use Rattle.pdb_pipe.specs.inner.After.{after_itself, after_on, after_rises, leaves_after, leaves_itself, leaves_on, with_itself, with_on};
     ghost use Rattle.pdb_pipe.specs.inner.Counting.{as_many};
 
     ghost stands = { λ db commits. StandsFor D.tells D.clock D.past db commits };
@@ -35,9 +35,11 @@ impl<D: Disk> Keeper for Database<D> {
 
     ghost read_bound = { λ db call key. Some most_reads };
 
-    ghost due = { λ db call fault. IsDue D.tells D.clock D.past D.fault_count db call fault };
+    ghost due = { λ db call fault. IsDue D.tells D.clock D.past db call fault };
 
     ghost comes_after = { λ a b. ComesAfter D.clock D.past D.fault_count a b };
+
+    ghost only_reads = { λ a b. LeavesDisk D.clock D.past D.fault_count a b };
 
     ghost later = { λ a g b h. ComesAfterWith D.clock D.past D.fault_count a g b h };
 
@@ -53,10 +55,11 @@ impl<D: Disk> Keeper for Database<D> {
         ensures later { (commits : Commits) → StandsFor D.tells D.clock D.past self.old commits
             → ComesAfterWith D.clock D.past D.fault_count self.old commits self.new commits }
         ensures after { ComesAfter D.clock D.past D.fault_count self.old self.new }
+        ensures outside { LeavesDisk D.clock D.past D.fault_count self.old self.new }
         ensures pipeline { pipeline_of self.new ≡ pipeline_of self.old }
         ensures counted { CountsFault (disk_failed result) (D.fault_count self.old.redo.log.disk) (D.fault_count self.new.redo.log.disk) }
         ensures damage { IfErr result (IsCause (IsDamaged D.tells D.clock D.past self.old 0)) }
-        ensures cause { IfErr result (IsCause (IsDue D.tells D.clock D.past D.fault_count self.new calls.Node)) }
+        ensures cause { IfErr result (IsCause (IsDue D.tells D.clock D.past self.new calls.Node)) }
         ensures reads { self.new.redo.reads ≤ self.old.redo.reads + most_reads }
     {
         self.find_node(key)
@@ -75,10 +78,11 @@ impl<D: Disk> Keeper for Database<D> {
         ensures later { (commits : Commits) → StandsFor D.tells D.clock D.past self.old commits
             → ComesAfterWith D.clock D.past D.fault_count self.old commits self.new commits }
         ensures after { ComesAfter D.clock D.past D.fault_count self.old self.new }
+        ensures outside { LeavesDisk D.clock D.past D.fault_count self.old self.new }
         ensures pipeline { pipeline_of self.new ≡ pipeline_of self.old }
         ensures counted { CountsFault (disk_failed result) (D.fault_count self.old.redo.log.disk) (D.fault_count self.new.redo.log.disk) }
         ensures damage { IfErr result (IsCause (IsDamaged D.tells D.clock D.past self.old 1)) }
-        ensures cause { IfErr result (IsCause (IsDue D.tells D.clock D.past D.fault_count self.new calls.Meta)) }
+        ensures cause { IfErr result (IsCause (IsDue D.tells D.clock D.past self.new calls.Meta)) }
         ensures reads { self.new.redo.reads ≤ self.old.redo.reads + most_reads }
     {
         self.find_meta(key)
@@ -108,11 +112,12 @@ impl<D: Disk> Keeper for Database<D> {
         ensures refused_later { (commits : Commits) → StandsFor D.tells D.clock D.past self.old commits
             → OnErr result (ComesAfterWith D.clock D.past D.fault_count self.old commits self.new commits) }
         ensures after { ComesAfter D.clock D.past D.fault_count self.old self.new }
+        ensures outside { LeavesDisk D.clock D.past D.fault_count self.old self.new }
         ensures number { IfOk result (λ n. n ≡ self.old.accepted + 1) }
         ensures pipeline { OnOk result (pipeline_of self.new ≡ with_commit (pipeline_of self.old)) }
         ensures unchanged { OnErr result (pipeline_of self.new ≡ pipeline_of self.old) }
         ensures counted { CountsFault (disk_failed result) (D.fault_count self.old.redo.log.disk) (D.fault_count self.new.redo.log.disk) }
-        ensures cause { IfErr result (IsCommitCause (IsDue D.tells D.clock D.past D.fault_count self.new calls.Commit) ops) }
+        ensures cause { IfErr result (IsCommitCause (IsDue D.tells D.clock D.past self.new calls.Commit) ops) }
     {
         if let Some(call) = self.redo.stopped() {
             return Err(KeepFault::Stopped { call });
@@ -158,6 +163,12 @@ impl<D: Disk> Keeper for Database<D> {
     ghost after_on = { λ a b c p q. after_on D.clock D.past D.fault_count a b c p q };
 
     ghost rises = { λ a b p. after_rises D.clock D.past D.fault_count a b p };
+
+    ghost only_after = { λ a b p. leaves_after D.clock D.past D.fault_count a b p };
+
+    ghost only_itself = { λ a. leaves_itself D.clock D.past D.fault_count a };
+
+    ghost only_on = { λ a b c p q. leaves_on D.clock D.past D.fault_count a b c p q };
 
     ghost later_itself = { λ a g stands. with_itself D.clock D.past D.fault_count a g };
 

@@ -7,7 +7,9 @@ ghost use Rattle.sdb_base.specs.declared.numbers.KeeperCall.TheVariants as calls
 ghost use Rattle.sdb_base.specs.declared.numbers.StageAnswer.TheVariants as answers;
 ghost use Rattle.pdb_cells.specs.Puts.{IsWholeCell, NoCellTwice};
 ghost use Rattle.pdb_log.specs.Ledger.{IsEmptyFile};
+ghost use Rattle.pdb_log.specs.Tallies.{Tally};
 ghost use Rattle.pdb_model.specs.Logs.{IsLogFile};
+ghost use Rattle.pdb_redo.specs.Tallies.{IsRedoTally};
 
 use crate::database::Database;
 use crate::faults::of_redo;
@@ -19,6 +21,7 @@ use sdb_base::{Grown, KeepFault, Keeper, Logged, Stages};
 impl<D: Disk> Database<D> {
     ghost use Rattle.pdb_pipe.specs.Faults.{EndsLog, IsDue, StopsWith};
     ghost use Rattle.pdb_pipe.specs.Going.{ComesAfter};
+    ghost use Rattle.pdb_pipe.specs.Stages.{TakesTime, TallyGoes};
     ghost use Rattle.pdb_pipe.specs.Standing.{StandsFor, pipeline_of};
     ghost use Rattle.pdb_pipe.specs.inner.StageLogging.{CarryOut};
 
@@ -29,12 +32,15 @@ impl<D: Disk> Database<D> {
         requires waits { self.old.queue ≢ [] }
         requires running { self.old.redo.stopped ≡ None }
         ensures steps { IfOk result (λ r. StepsUncrowded (pipeline_of self.old) (answers.Logged r) (pipeline_of self.new)) }
+        ensures time { IfOk result (λ r. TakesTime (answers.Logged r) (D.clock self.old.redo.log.disk) (D.clock self.new.redo.log.disk)) }
+        ensures tally { (t : Tally) → IsRedoTally self.old.redo t
+            → IfOk result (λ r. (u : Tally) × TallyGoes (answers.Logged r) t u × IsRedoTally self.new.redo u) }
         ensures unchanged { OnErr result (pipeline_of self.new ≡ pipeline_of self.old) }
         ensures stands { (commits : Commits) → StandsFor D.tells D.clock D.past self.old commits
             → CarryOut D.clock D.past self.old commits puts → StandsFor D.tells D.clock D.past self.new commits }
         ensures after { ComesAfter D.clock D.past D.fault_count self.old self.new }
         ensures counted { CountsFault (disk_failed result) (D.fault_count self.old.redo.log.disk) (D.fault_count self.new.redo.log.disk) }
-        ensures cause { IfErr result (IsCause (IsDue D.tells D.clock D.past D.fault_count self.new calls.Log)) }
+        ensures cause { IfErr result (IsCause (IsDue D.tells D.clock D.past self.new calls.Log)) }
         ensures ends { IfErr result (IsCause (EndsLog self.old)) }
         ensures stops { StopsWith (D.clock self.new.redo.log.disk) self.new.redo.stopped result }
     {
@@ -70,9 +76,11 @@ impl<D: Disk> Stages for Database<D> {
             → ComesAfterWith D.clock D.past D.fault_count self.old commits self.new commits }
         ensures after { ComesAfter D.clock D.past D.fault_count self.old self.new }
         ensures counted { CountsFault (disk_failed result) (D.fault_count self.old.redo.log.disk) (D.fault_count self.new.redo.log.disk) }
-        ensures cause { IfErr result (IsCause (IsDue D.tells D.clock D.past D.fault_count self.new calls.Log)) }
-        ensures cause_before { IfErr result (IsCause (IsDue D.tells D.clock D.past D.fault_count self.old calls.Log)) }
+        ensures cause { IfErr result (IsCause (IsDue D.tells D.clock D.past self.new calls.Log)) }
+        ensures cause_before { IfErr result (IsCause (IsDue D.tells D.clock D.past self.old calls.Log)) }
         ensures stopped { (call : ℕ) → self.old.redo.stopped ≡ Some call → result ≡ Err (KeepFault.Stopped call) }
+        ensures empty { (pipeline_of self.old).numbers.logged ≡ (pipeline_of self.old).numbers.accepted → self.old.redo.stopped ≡ None
+            → result ≡ Ok Logged.Idle }
         ensures stops { self.old.redo.stopped ≡ None → LogStops D.tells D.clock D.past D.fault_count self.old result self.new }
     {
         if let Some(call) = self.redo.stopped() {
@@ -97,7 +105,7 @@ impl<D: Disk> Stages for Database<D> {
             → ComesAfterWith D.clock D.past D.fault_count self.old commits self.new commits }
         ensures after { ComesAfter D.clock D.past D.fault_count self.old self.new }
         ensures counted { CountsFault (disk_failed result) (D.fault_count self.old.redo.log.disk) (D.fault_count self.new.redo.log.disk) }
-        ensures cause { IfErr result (IsCause (IsDue D.tells D.clock D.past D.fault_count self.new calls.Flush)) }
+        ensures cause { IfErr result (IsCause (IsDue D.tells D.clock D.past self.new calls.Flush)) }
         ensures stopped { (call : ℕ) → self.old.redo.stopped ≡ Some call → result ≡ Err (KeepFault.Stopped call) }
         ensures stops { self.old.redo.stopped ≡ None → StopsWith (D.clock self.new.redo.log.disk) self.new.redo.stopped result }
     {
@@ -120,7 +128,7 @@ impl<D: Disk> Stages for Database<D> {
             → ComesAfterWith D.clock D.past D.fault_count self.old commits self.new commits }
         ensures after { ComesAfter D.clock D.past D.fault_count self.old self.new }
         ensures counted { CountsFault (disk_failed result) (D.fault_count self.old.redo.log.disk) (D.fault_count self.new.redo.log.disk) }
-        ensures cause { IfErr result (IsCause (IsDue D.tells D.clock D.past D.fault_count self.new calls.Enact)) }
+        ensures cause { IfErr result (IsCause (IsDue D.tells D.clock D.past self.new calls.Enact)) }
         ensures stopped { (call : ℕ) → self.old.redo.stopped ≡ Some call → result ≡ Err (KeepFault.Stopped call) }
         ensures stops { self.old.redo.stopped ≡ None → StopsWith (D.clock self.new.redo.log.disk) self.new.redo.stopped result }
     {
@@ -143,7 +151,8 @@ impl<D: Disk> Stages for Database<D> {
             → ComesAfterWith D.clock D.past D.fault_count self.old commits self.new commits }
         ensures after { ComesAfter D.clock D.past D.fault_count self.old self.new }
         ensures counted { CountsFault (disk_failed result) (D.fault_count self.old.redo.log.disk) (D.fault_count self.new.redo.log.disk) }
-        ensures cause { IfErr result (IsCause (IsDue D.tells D.clock D.past D.fault_count self.new calls.Clean)) }
+        ensures cause { IfErr result (IsCause (IsDue D.tells D.clock D.past self.new calls.Clean)) }
+        ensures cause_before { IfErr result (IsCause (IsDue D.tells D.clock D.past self.old calls.Clean)) }
         ensures stopped { (call : ℕ) → self.old.redo.stopped ≡ Some call → result ≡ Err (KeepFault.Stopped call) }
         ensures stops { self.old.redo.stopped ≡ None → StopsWith (D.clock self.new.redo.log.disk) self.new.redo.stopped result }
         ensures empty { (commits : Commits) → StandsFor D.tells D.clock D.past self.old commits → (pipeline_of self.old).waiting ≡ []
@@ -170,7 +179,7 @@ impl<D: Disk> Stages for Database<D> {
             → ComesAfterWith D.clock D.past D.fault_count self.old commits self.new commits }
         ensures after { ComesAfter D.clock D.past D.fault_count self.old self.new }
         ensures counted { CountsFault (disk_failed result) (D.fault_count self.old.redo.log.disk) (D.fault_count self.new.redo.log.disk) }
-        ensures cause { IfErr result (IsCause (IsDue D.tells D.clock D.past D.fault_count self.new calls.Grow)) }
+        ensures cause { IfErr result (IsCause (IsDue D.tells D.clock D.past self.new calls.Grow)) }
         ensures stopped { (call : ℕ) → self.old.redo.stopped ≡ Some call → result ≡ Err (KeepFault.Stopped call) }
         ensures same { self.new ≡ self.old }
     {

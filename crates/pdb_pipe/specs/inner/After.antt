@@ -4,9 +4,9 @@ use Rattle.std.proofs.Common.{◌∙◌, ap, append_assoc, arith, sym}
 use Rattle.std.proofs.lemmas.List.{append-nil}
 use Rattle.sdb_base.specs.Keeping.{Commits}
 use Rattle.pdb_disk.specs.Files.{Files}
-use Rattle.pdb_redo.specs.Reaches.{RedoGoesOn}
+use Rattle.pdb_redo.specs.Reaches.{Reach, RedoGoesOn}
 use Rattle.pdb_redo.specs.declared.redo_log.Redo.{Redo}
-use Rattle.pdb_pipe.specs.Going.{ComesAfter, ComesAfterWith}
+use Rattle.pdb_pipe.specs.Going.{ComesAfter, ComesAfterWith, LeavesDisk}
 use Rattle.pdb_pipe.specs.declared.database.Database.{Database}
 
 -- commits begin with themselves, and with those with which earlier ones begin
@@ -49,3 +49,28 @@ module _ {D : Type 0} (clock : D → ℕ) (past : D → ℕ → Files) (fault_co
   pub with_on : (a b c : Database D) (g h i : Commits) → ComesAfterWith clock past fault_count a g b h
       → ComesAfterWith clock past fault_count b h c i → ComesAfterWith clock past fault_count a g c i
   with_on a b c g h i p q = (after_on a b c p.0 q.0, begins_on g h i p.1 q.1)
+
+  pub leaves_after : (a b : Database D) → LeavesDisk clock past fault_count a b → After a b
+  leaves_after a b p = record {
+    faults = p.faults;
+    goes_on = record {
+      later = let e = p.time in omega (arith, e);
+      earlier = λ t le. ap (λ (files : ℕ → Files). files t) p.unchanged;
+      reads = p.reads;
+    };
+    flushed = let e = ap (λ (r : Reach). r.flushed) p.reach in omega (arith, e);
+  }
+
+  pub leaves_itself : (a : Database D) → LeavesDisk clock past fault_count a a
+  leaves_itself a = record { time = refl; unchanged = refl; faults = omega arith; reads = omega arith; stopped = refl; reach = refl; tally = λ t is. is }
+
+  pub leaves_on : (a b c : Database D) → LeavesDisk clock past fault_count a b → LeavesDisk clock past fault_count b c → LeavesDisk clock past fault_count a c
+  leaves_on a b c p q = record {
+    time = q.time ∙ p.time;
+    unchanged = q.unchanged ∙ p.unchanged;
+    faults = let f = p.faults in let g = q.faults in omega (arith, f, g);
+    reads = let f = p.reads in let g = q.reads in omega (arith, f, g);
+    stopped = q.stopped ∙ p.stopped;
+    reach = q.reach ∙ p.reach;
+    tally = λ t is. q.tally t (p.tally t is);
+  }

@@ -28,7 +28,8 @@ returns-in-Err-clause-ends g c cells bases contents e holds =
     let drafts = drafts_nothing (g.C.Cells.seen c.new-draft.result.under.now) cells c.new-draft.result.puts c.new-draft.ensures.puts at in
     subst (λ (f : KeepFault). PlanEnds cells bases contents c.args.ops.now f) (sym c.of_plan.ensures)
     (plan_ends c.plan-answer.new.d.puts (g.C.Cells.seen c.plan-answer.new.d.under.now) cells bases contents c.args.ops.now c.in-Err.fault (g.met.C.Cells.stays c.new-draft.result.under.now c.plan-answer.new.d.under.now cells c.plan-answer.ensures.keeps at)
-    (c.in-Err.ensures.sound cells bases contents drafts holds) (c.in-Err.ensures.slots_first cells bases contents drafts holds))
+    (c.in-Err.ensures.sound cells bases contents drafts holds) (c.in-Err.ensures.slots_first cells bases contents drafts holds)
+    (c.in-Err.ensures.no_slots cells bases contents drafts holds))
 
 pub returns-in-Err-clause-cause : goal.returns-in-Err-clause-cause
 returns-in-Err-clause-cause g c =

@@ -3,6 +3,8 @@ use Rattle.std.proofs.lemmas.List.Elements.{All-tail}
 use Rattle.sdb_base.specs.Keeping.{Commits}
 use Rattle.sdb_base.specs.declared.op.Op.{Op}
 use Rattle.pdb_column.specs.Answers.{IsStorable}
+use Rattle.pdb_log.specs.Tallies.{with_bytes}
+use Rattle.pdb_model.specs.Records.{Record, record_bytes}
 use Rattle.pdb_redo.specs.Reaches.{Reach, reach_of, with_logged}
 use Rattle.pdb_redo.specs.Standing.{next_redo_record}
 use Rattle.pdb_redo.specs.declared.recorded.Recorded.{Recorded}
@@ -49,3 +51,11 @@ returns-in-Err-clause-stands g c commits s carry =
       ),
     ))
     (λ call e. (c.in-Err.ensures.stopped call e).1)
+
+pub returns-in-Ok-clause-tally : goal.returns-in-Ok-clause-tally
+returns-in-Ok-clause-tally g c t is =
+    let record_at : ℕ → Record = λ k. record { number = k + 1; commits = c.recorded-number.result.appended + 1; puts = c.args.puts } in (
+      with_bytes t (length (record_bytes (record_at c.args.self.now.redo.appended.number))),
+      (c.args.puts, c.requires.whole, c.requires.once, ap (λ (k : ℕ). with_bytes t (length (record_bytes (record_at k)))) is.appended),
+      c.in-Ok.ensures.tally t is,
+    )
