@@ -13,7 +13,7 @@ use Rattle.sdb_base.specs.declared.node.Node.{Node}
 use Rattle.sdb_base.specs.declared.op.Op.{Op}
 use Rattle.sdb_base.specs.declared.op.Op.TheVariants.{AddRef, DropRef, Put, Erase}
 use Rattle.trie_read.proofs.Among.{Among}
-use Rattle.sdb_serve.specs.inner.Kept.{references_to}
+use Rattle.sdb_serve.specs.BlockCommits.{references_to}
 
 -- some element has a property
 abbrev pub AnyOf : {X : Type 0} → (X → Type 0) → List X → Type 0

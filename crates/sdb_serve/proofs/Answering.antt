@@ -3,7 +3,6 @@ use Rattle.std.proofs.Common.{◌≡◌, ◌≢◌, ℕ, ◌+◌, ◌<◌, ◌�
 use Rattle.std.proofs.lemmas.Bool.{cases_lt, le-ltb, lt-ltb, ne_eqb}
 use Rattle.sdb_base.specs.Pipeline.{with_commit}
 use Rattle.sdb_base.specs.declared.Block.{Block}
-use Rattle.sdb_base.specs.declared.NodeHash.{NodeHash}
 use Rattle.sdb_model.specs.declared.Refusal.TheVariants.{HasGenesis, NoGenesis}
 use Rattle.sdb_model.specs.declared.Reply.{Reply}
 use Rattle.sdb_model.specs.declared.Reply.TheVariants.{Refused}
@@ -15,19 +14,15 @@ use Rattle.sdb_script.specs.declared.LineReply.{LineReply}
 use Rattle.sdb_script.specs.declared.LineReply.TheVariants as replies
 use Rattle.sdb_script.specs.declared.Stage.{Stage}
 use Rattle.sdb_serve.specs.inner.Pieces.{as_piece}
-use Rattle.sdb_serve.specs.inner.Kept.{MeetsNoBadNode}
-use Rattle.sdb_serve.specs.inner.Steps.{play_fault_of}
-use Rattle.sdb_serve.specs.declared.nodes.NodeFault.{NodeFault}
-use Rattle.sdb_serve.specs.declared.nodes.NodeFault.TheVariants as nodes
-use Rattle.sdb_serve.specs.declared.session.PlayFault.TheVariants.{BadNode}
-use Rattle.sdb_serve.specs.Session.{SessionState, answer, answer_job, play_line, most_bytes, reply_lines}
+use Rattle.sdb_serve.specs.Session.{SessionState, answer, answer_job, most_bytes, no_commits, play_line, reply_lines}
 use Rattle.sdb_serve.specs.StageLines.{after_stage, pipeline_after, stage_reply}
 
 pub blank : (s : SessionState) → answer s lines.Blank ≡ Some (None, s)
 unfolding answer
 blank s = refl
 
-pub new_first : (s : SessionState) (base : ℕ) → s.begun ≡ false → answer s (lines.New base) ≡ Some (Some replies.New, record s { begun = true })
+pub new_first : (s : SessionState) (base : ℕ) → s.begun ≡ false
+    → answer s (lines.New base) ≡ Some (Some replies.New, record s { begun = true; pipeline = no_commits base })
 unfolding answer
 new_first s base e = rw e refl
 
@@ -125,11 +120,3 @@ no_piece (b ∷ bs) e = absurd (no_test (sym (ne_eqb (length (b ∷ bs)) 0 (λ h
 pub some_piece : (text : List ℕ) → (length text == 0) ≡ false → as_piece text ≡ text ∷ []
 some_piece [] e = absurd cc
 some_piece (b ∷ bs) e = refl
-
--- ---- a job's fault
-
--- a job meets a bad node only where that isn't ruled out
-pub meets_node : (fault : NodeFault) (hash : NodeHash) → play_fault_of fault ≡ BadNode hash → MeetsNoBadNode fault → ⊥
-meets_node nodes.OutOfMemory hash e f = absurd cc
-meets_node (nodes.BadNode other) hash e f = f
-meets_node (nodes.Keep fault) hash e f = absurd cc

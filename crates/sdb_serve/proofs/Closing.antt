@@ -1,137 +1,146 @@
--- How a run is closed, and what a status then says of its input.
-use Rattle.std.proofs.Common.{◌≡◌, ℕ, true, false, arith, List, [], ◌∷◌, codes, refl, sym, ap, subst, ◌∙◌, inl, inr, Option, append-nil}
-use Rattle.std.specs.Prelude.{◌⊎◌}
-use Rattle.std.proofs.lemmas.Bool.{cases_lt}
-use Rattle.sdb_base.specs.declared.NodeHash.{NodeHash}
-use Rattle.sdb_io.specs.Faults.{CountsFault, Rose}
+-- How a run is closed.
+use Rattle.std.proofs.Common.{◌≡◌, ℕ, arith, List, [], ◌∷◌, refl, sym, subst, inl, inr, Option, append-nil}
+use Rattle.std.specs.Prelude.{◌⊎◌, Bool, Result, Ok, Err, IfOk, IsErr}
 use Rattle.sdb_io.specs.Output.{Gets, GetsPrefix, Output}
-use Rattle.sdb_serve.specs.Session.{first_session}
-use Rattle.sdb_serve.specs.Runs.{FailsTwice, IsRunOf, ended, MayStop, Run, last_line}
+use Rattle.pdb_disk.specs.Files.{Files}
+use Rattle.sdb_serve.specs.Given.{Given}
+use Rattle.sdb_serve.specs.Marks.{Reached, first_reached}
+use Rattle.sdb_serve.specs.Runs.{Ending, EndsAs, EndsFor, EndsWithin, IsRunOf, MayStop, Run, last_line}
 use Rattle.sdb_serve.specs.Statuses.{status_of}
-use Rattle.sdb_serve.specs.inner.Steps.{CountsWhere, HaltsAtSink, HaltsFor, IsAt, IsClosed, IsLastCause, Represents}
+use Rattle.sdb_serve.specs.inner.Steps.{HaltsAtSink, HaltsFor, IsAt, IsClosed, IsLastCause, Known, MakesLine, ending_of}
+use Rattle.sdb_serve.specs.inner.Stores.{Represents}
 use Rattle.sdb_serve.specs.declared.session.Session.{Session}
 use Rattle.sdb_serve.specs.declared.cause.Cause.{Cause}
-use Rattle.sdb_serve.specs.declared.cause.Cause.TheVariants.{End, BadLine, Source, Memory, BadNode}
-use Rattle.sdb_serve.specs.declared.cause.Stop.TheVariants as stops
+use Rattle.sdb_serve.specs.declared.cause.Cause.TheVariants.{End, BadLine, Source, Memory, Disk, Occupied, BadCell, BadNode, IndexFull, TierFull, NumbersEnd}
 use Rattle.sdb_serve.specs.declared.status.Status.{Status}
-use Rattle.sdb_serve.specs.declared.status.Status.TheVariants.{SinkFault, Damaged}
+use Rattle.sdb_serve.specs.declared.status.Status.TheVariants.{SinkFault}
 use Rattle.sdb_serve.proofs.Outputs.{gets_then, prefix_then}
 
 -- the run that has read nothing
-abbrev pub at_start : List ℕ → Run
-at_start input = record { lines = []; replies = []; session = first_session; more = input }
+abbrev pub at_start : Given → List ℕ → Run
+at_start g input = record { lines = []; replies = []; at = first_reached g; more = input }
 
--- the sink failed at a reply
-pub cut_off : (input : List ℕ) (left : Option (List ℕ)) (old new : Output) → HaltsAtSink (at_start input) input left old new → IsRunOf SinkFault input left old new
-cut_off input left old new halts = record {
-  at = halts.at;
-  run = halts.run;
-  near = halts.near;
-  stopped = inr (
-    refl,
-    record {
-      line = halts.reply;
-      next = inl halts.next;
-      written = subst (λ (t : List (List ℕ)). GetsPrefix old new t halts.reply) (sym halts.added) halts.written;
-    },
-  );
-}
+-- ---- the cause of the last line
 
-may_last : (cause last : Cause) (left : Option (List ℕ)) (r : Run) → IsLastCause cause last → MayStop cause left r → MayStop last left r
-may_last cause last left r is may = elim is [
-  | inl e ↦ subst (λ (c : Cause). MayStop c left r) (sym e) may
-  | inr e ↦ subst (λ (c : Cause). MayStop c left r) (sym e.1) tt
+may_last : (g : Given) (cause last : Cause) (left : Option (List ℕ)) (r : Run) → IsLastCause cause last → MayStop g cause left r
+    → MayStop g last left r
+may_last g cause last left r is may = elim is [
+  | inl e ↦ subst (λ (c : Cause). MayStop g c left r) (sym e) may
+  | inr e ↦ subst (λ (c : Cause). MayStop g c left r) (sym e.1) tt
 ]
 
--- the last line of a cause was written after the replies, or the sink failed at it
-pub closes : (cause last : Cause) (input : List ℕ) (p : Session) (left : Option (List ℕ)) (old mid new : Output) (result : Status)
-    → HaltsFor cause (at_start input) input p left old mid → IsLastCause cause last → IsClosed last p.lines result mid new → IsRunOf result input left old new
-closes cause last input p left old mid new result halts is closed =
-    let may : MayStop last left halts.at = may_last cause last left halts.at is halts.may_stop in
-    let replies : halts.at.replies ≡ halts.replies = halts.added in record {
-      at = halts.at;
-      run = halts.run;
-      near = halts.near;
-      stopped = elim closed [
-        | inl a ↦ inl (
-          last,
-          a.0,
-          record {
-            may_stop = may;
-            written = rw (replies, halts.lines) (gets_then old mid new halts.replies (last_line last p.lines) halts.written a.1);
-          },
-        )
-        | inr b ↦ inr (
-          b.0,
-          record {
-            line = b.1;
-            next = inr (last, may, rw halts.lines b.2);
-            written = rw replies (subst (λ (t : List (List ℕ)). GetsPrefix old new t b.1) (append-nil halts.replies) (prefix_then old mid new halts.replies [] b.1 halts.written b.3));
-          },
-        )
-      ];
-    }
+-- whatever the cause, the disk's clock is no less at the end, and there is no mark more
+ends_within : (cause : Cause) (e : Ending) (a : Reached) → EndsAs cause e a → EndsWithin e a
+ends_within End e a ends = (omega (arith, ends.0), ends.1)
+ends_within BadLine e a ends = (omega (arith, ends.0), ends.1)
+ends_within Source e a ends = (omega (arith, ends.0), ends.1)
+ends_within Memory e a ends = ends
+ends_within Disk e a ends = ends
+ends_within Occupied e a ends = (omega (arith, ends.0), ends.1)
+ends_within (BadCell file cell) e a ends = ends
+ends_within (BadNode hash) e a ends = (omega (arith, ends.0), ends.1)
+ends_within (IndexFull column bits chunk) e a ends = ends
+ends_within (TierFull column tier) e a ends = ends
+ends_within (NumbersEnd which) e a ends = ends
 
--- the last line for a bad node was written, or the sink failed at it
-pub closes_node : (hash : NodeHash) (n : ℕ) (text : List ℕ) (result : Status) (old new : Output) → ((m : ℕ) → last_line (BadNode hash) m ≡ text ∷ [])
-    → ((result ≡ Damaged) × Gets old new (text ∷ [])) ⊎ ((result ≡ SinkFault) × GetsPrefix old new [] text) → IsClosed (BadNode hash) n result old new
-closes_node hash n text result old new line put = elim put [
-  | inl a ↦ inl (a.0, subst (Gets old new) (sym (line n)) a.1)
-  | inr b ↦ inr (b.0, text, line n, b.1)
+ends_last : (g : Given) (cause last : Cause) (e : Ending) (r : Run) → IsLastCause cause last → EndsFor g cause e r → EndsFor g last e r
+ends_last g cause last e r is ends = elim is [
+  | inl same ↦ subst (λ (c : Cause). EndsFor g c e r) (sym same) ends
+  | inr made ↦ subst (λ (c : Cause). EndsFor g c e r) (sym made.1) (elim ends [
+    | inl before ↦ inl (ends_within cause e r.at before)
+    | inr after ↦ inr (refl, after.1, after.2)
+  ])
 ]
 
--- ---- what a status says of the cause
+-- a last line was written, or the sink failed at it
+pub closes_put : (cause : Cause) (n : ℕ) (text : List ℕ) (result : Status) (old new : Output) → last_line cause n ≡ text ∷ []
+    → ((result ≡ status_of cause) × Gets old new (text ∷ [])) ⊎ ((result ≡ SinkFault) × GetsPrefix old new [] text)
+    → (last : Cause) × IsLastCause cause last × IsClosed last n result old new
+closes_put cause n text result old new line put = (
+  cause,
+  inl refl,
+  elim put [
+    | inl a ↦ inl (a.0, subst (Gets old new) (sym line) a.1)
+    | inr b ↦ inr (b.0, text, line, b.1)
+  ],
+)
 
-pub never_sink : (c : Cause) → status_of c ≡ SinkFault → ⊥
-never_sink End e = absurd cc
-never_sink BadLine e = absurd cc
-never_sink Source e = absurd cc
-never_sink Memory e = absurd cc
-never_sink (BadNode hash) e = absurd cc
+-- a last line that takes memory was written, or the one that there was none
+pub closes_made : {V E : Type 0} (items : V → List ℕ) (cause : Cause) (n : ℕ) (made : Result V E) (result : Status) (old new : Output)
+    → MakesLine cause → IfOk made (λ text. last_line cause n ≡ items text ∷ [])
+    → IfOk made (λ text. ((result ≡ status_of cause) × Gets old new (items text ∷ []))
+    ⊎ ((result ≡ SinkFault) × GetsPrefix old new [] (items text)))
+    → (IsErr made → IsClosed Memory 0 result old new) → (last : Cause) × IsLastCause cause last × IsClosed last n result old new
+closes_made items cause n (Ok text) result old new makes line put none = closes_put cause n (items text) result old new line put
+closes_made items cause n (Err e) result old new makes line put none = (Memory, inr (makes, refl), none refl)
 
--- ---- counts of faults
+-- a line that doesn't tell how many lines were answered
+pub for_all_lines : {V E : Type 0} (items : V → List ℕ) (cause : Cause) (n : ℕ) (made : Result V E)
+    → IfOk made (λ text. (m : ℕ) → last_line cause m ≡ items text ∷ []) → IfOk made (λ text. last_line cause n ≡ items text ∷ [])
+for_all_lines items cause n (Ok text) h = h n
+for_all_lines items cause n (Err e) h = tt
 
-first_piece : (x y : List ℕ) → ◌≡◌ {A = List (List ℕ)} (x ∷ []) (y ∷ []) → x ≡ y
-first_piece x y e = cc
+module _ {D : Type 0} (tells : D → Bool) (clock : D → ℕ) (past : D → ℕ → Files) (given : D) where
+  -- nothing was read yet
+  pub starts : (input : List ℕ) (p : Session D) → Represents tells clock past given p (first_reached (Known tells clock past given))
+      → p.lines ≡ 0 → IsAt tells clock past given (at_start (Known tells clock past given) input) input p input
+  starts input p represents lines = record {
+    run = record { parts = refl; each = λ k d lt. absurd (omega arith); answers = (refl, refl) };
+    session = represents;
+    lines = sym lines;
+    more = refl;
+  }
 
--- where the sink failed at a last line, the source failed before only where that line is for it
-pub failed_twice : (cause last : Cause) (a b : ℕ) (input : List ℕ) (p : Session) (left : Option (List ℕ)) (old mid new : Output) (result : Status)
-    → CountsWhere (stops.Cause cause ≡ stops.Cause Source) a b → HaltsFor cause (at_start input) input p left old mid → IsLastCause cause last
-    → IsClosed last p.lines result mid new → result ≡ SinkFault → CountsFault false a b ⊎ FailsTwice input left old new
-failed_twice End last a b input p left old mid new result counts halts is closed e = inl (counts.1 (λ h. cc))
-failed_twice BadLine last a b input p left old mid new result counts halts is closed e = inl (counts.1 (λ h. cc))
-failed_twice Memory last a b input p left old mid new result counts halts is closed e = inl (counts.1 (λ h. cc))
-failed_twice (BadNode hash) last a b input p left old mid new result counts halts is closed e = inl (counts.1 (λ h. cc))
-failed_twice Source last a b input p left old mid new result counts halts is closed e =
-    let same : last ≡ Source = elim is [
-      | inl l ↦ l
-      | inr l ↦ absurd l.0
-    ] in
-    elim closed [
-      | inl s ↦ absurd (never_sink last (sym s.0 ∙ e))
-      | inr s ↦
-          let line : ended (codes "stop 4") ≡ s.1 = first_piece (ended (codes "stop 4")) s.1 (ap (λ (c : Cause). last_line c p.lines) (sym same) ∙ s.2) in
-          let got : GetsPrefix old new halts.replies s.1 =
-          subst (λ (t : List (List ℕ)). GetsPrefix old new t s.1) (append-nil halts.replies) (prefix_then old mid new halts.replies [] s.1 halts.written s.3) in
-          inr (record {
-            at = halts.at;
-            run = halts.run;
-            may_stop = halts.may_stop;
-            written = rw (halts.added, line) got;
-          })
-    ]
+  -- the sink failed at a reply
+  pub cut_off : (input : List ℕ) (p : Session D) (left : Option (List ℕ)) (old new : Output)
+      → HaltsAtSink tells clock past given (at_start (Known tells clock past given) input) input p left old new
+      → IsRunOf (Known tells clock past given) SinkFault input (ending_of tells clock past given left p) old new
+  cut_off input p left old new halts = record {
+    at = halts.at;
+    run = halts.run;
+    near = halts.near;
+    stopped = inr (
+      refl,
+      record {
+        line = halts.reply;
+        next = inl halts.next;
+        written = subst (λ (t : List (List ℕ)). GetsPrefix old new t halts.reply) (sym halts.added) halts.written;
+      },
+    );
+  }
 
-pub a_fault_rose : (a b : ℕ) → CountsFault true a b → Rose a b
-a_fault_rose a b e = elim (cases_lt a b) [
-  | inl lt ↦ inl lt
-  | inr le ↦ inr (omega (arith, e))
-]
-
--- nothing was read yet
-pub starts : (input : List ℕ) (p : Session) → Represents p first_session → p.lines ≡ 0 → IsAt (at_start input) input p input
-starts input p represents lines = record {
-  run = record { parts = refl; each = λ k d lt. absurd (omega arith); answers = (refl, refl) };
-  session = represents;
-  lines = sym lines;
-  more = refl;
-}
+  -- the last line of a cause was written after the replies, or the sink failed at it
+  pub closes : (cause last : Cause) (input : List ℕ) (p : Session D) (left : Option (List ℕ)) (old mid new : Output) (result : Status)
+      → HaltsFor tells clock past given cause (at_start (Known tells clock past given) input) input p left old mid
+      → IsLastCause cause last → IsClosed last p.lines result mid new
+      → IsRunOf (Known tells clock past given) result input (ending_of tells clock past given left p) old new
+  closes cause last input p left old mid new result halts is closed =
+      let g = Known tells clock past given in
+      let may : MayStop g last left halts.at = may_last g cause last left halts.at is halts.may_stop in
+      let end = ends_last g cause last (ending_of tells clock past given left p) halts.at is halts.ends in
+      let replies : halts.at.replies ≡ halts.replies = halts.added in record {
+        at = halts.at;
+        run = halts.run;
+        near = halts.near;
+        stopped = elim closed [
+          | inl a ↦ inl (
+            last,
+            a.0,
+            record {
+              may_stop = may;
+              ends = end;
+              written = rw (replies, halts.lines) (gets_then old mid new halts.replies (last_line last p.lines) halts.written a.1);
+            },
+          )
+          | inr b ↦
+              let cut = prefix_then old mid new halts.replies [] b.1 halts.written b.3 in
+              inr (
+                b.0,
+                record {
+                  line = b.1;
+                  next = inr (last, may, end, rw halts.lines b.2);
+                  written = rw replies (subst (λ (t : List (List ℕ)). GetsPrefix old new t b.1) (append-nil halts.replies) cut);
+                },
+              )
+        ];
+      }

@@ -9,7 +9,8 @@ use Rattle.sdb_base.specs.declared.node.Node.{Node}
 use Rattle.sdb_base.specs.declared.op.Op.{Op}
 use Rattle.sdb_base.specs.declared.numbers.KeepFault.{KeepFault}
 use Rattle.sdb_base.specs.declared.numbers.KeepFault.TheVariants.{OutOfMemory, Disk, Stopped, ValueTooLong, IndexFull, TierFull, Damaged, NumbersEnd}
-use Rattle.sdb_serve.specs.inner.Kept.{IsKeeperCause, MeetsNoBadNode, fault_of_keeper, is_of_disk, references_to}
+use Rattle.sdb_serve.specs.BlockCommits.{references_to}
+use Rattle.sdb_serve.specs.inner.Kept.{IsKeeperCause, MeetsNoBadNode, fault_of_keeper, is_of_disk}
 use Rattle.sdb_serve.specs.declared.nodes.NodeFault.{NodeFault}
 use Rattle.sdb_serve.specs.declared.nodes.NodeFault.TheVariants as nodes
 use Rattle.sdb_serve.proofs.AddedNodes.{no_longer}

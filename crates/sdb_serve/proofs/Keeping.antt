@@ -20,8 +20,8 @@ use Rattle.sdb_model.specs.Blocks.{chain_of, same_id, state_of}
 use Rattle.sdb_model.proofs.Counts.{IsAdded, is_some-option_map, newest_has_number}
 use Rattle.sdb_model.proofs.Chains.{chain-none}
 use Rattle.trie_root.specs.Suffixes.{IsEntry}
-use Rattle.sdb_serve.specs.inner.Blocks.{IsSameMap, KeepsBlocks, KeepsStates, RepresentsBlocks, commits_of, id_cmp, with_level}
-use Rattle.sdb_serve.specs.inner.Kept.{references_to}
+use Rattle.sdb_serve.specs.BlockCommits.{commits_of, references_to}
+use Rattle.sdb_serve.specs.inner.Blocks.{IsSameMap, KeepsBlocks, KeepsStates, RepresentsBlocks, id_cmp, with_level}
 use Rattle.sdb_serve.proofs.KeptChanges.{LeadsTo}
 use Rattle.sdb_serve.proofs.KeptStates.{clear_before, keeps_states}
 use Rattle.sdb_serve.specs.declared.blocks.BlockMap.{BlockMap}

@@ -19,8 +19,9 @@ use Rattle.trie_change.specs.declared.delta.Delta.{Delta}
 use Rattle.trie_model.specs.Nodes.{PathNode, put_nodes, stored_nodes}
 use Rattle.trie_model.specs.Trie.{trie_root}
 use Rattle.trie_root.specs.Suffixes.{IsEntry}
-use Rattle.sdb_serve.specs.inner.Blocks.{KeepsBlocks, RepresentsBlocks, commit_of, commits_of, id_cmp, nodes_put_on, with_level}
-use Rattle.sdb_serve.specs.inner.Kept.{IsKeptState, references_to}
+use Rattle.sdb_serve.specs.BlockCommits.{commit_of, commits_of, nodes_put_on, references_to}
+use Rattle.sdb_serve.specs.inner.Blocks.{KeepsBlocks, RepresentsBlocks, id_cmp, with_level}
+use Rattle.sdb_serve.specs.inner.Kept.{IsKeptState}
 use Rattle.sdb_serve.specs.declared.blocks.BlockEntry.{BlockEntry}
 use Rattle.sdb_serve.specs.declared.blocks.BlockMap.{BlockMap}
 use Rattle.sdb_serve.proofs.Keeping.{added_as, entry_has_chain, keeps_added, no_state, no_value, represents_added, state_in}

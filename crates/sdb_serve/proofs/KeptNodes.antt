@@ -11,7 +11,8 @@ use Rattle.sdb_base.proofs.Commits.{node_more}
 use Rattle.std.specs.List.{AllByRecursion}
 use Rattle.sdb_base.specs.declared.op.Op.{Op}
 use Rattle.trie_read.proofs.Among.{Among, among_from}
-use Rattle.sdb_serve.specs.inner.Kept.{IsKept, reference_to, references_to}
+use Rattle.sdb_serve.specs.BlockCommits.{reference_to, references_to}
+use Rattle.sdb_serve.specs.inner.Kept.{IsKept}
 
 -- bytes stay under a key
 abbrev Stays : List ℕ → Option Counted → Type 0

@@ -19,8 +19,9 @@ use Rattle.trie_model.specs.Nodes.{PathNode, stored_nodes}
 use Rattle.trie_model.specs.State.{State}
 use Rattle.trie_model.specs.Trie.{trie_root}
 use Rattle.trie_read.proofs.Among.{Among, among_from, contains_from}
-use Rattle.sdb_serve.specs.inner.Blocks.{KeepsStates, commits_of, id_cmp}
-use Rattle.sdb_serve.specs.inner.Kept.{AddsAlike, HasNodes, IsKept, references_to}
+use Rattle.sdb_serve.specs.BlockCommits.{commits_of, references_to}
+use Rattle.sdb_serve.specs.inner.Blocks.{KeepsStates, id_cmp}
+use Rattle.sdb_serve.specs.inner.Kept.{AddsAlike, HasNodes, IsKept}
 use Rattle.sdb_serve.proofs.AddedNodes.{added_by, was_added}
 use Rattle.sdb_serve.proofs.KeptNodes.{AddsNodes, adds_nodes}
 use Rattle.sdb_serve.specs.declared.blocks.BlockEntry.{BlockEntry}

@@ -1,7 +1,11 @@
 pub mod Jobs
 pub mod StageLines
-pub mod Replies
 pub mod Session
+pub mod BlockCommits
+pub mod Given
+pub mod Crowding
+pub mod Replies
+pub mod Marks
 pub mod Playing
 pub mod Runs
 pub mod Statuses

@@ -1,5 +1,5 @@
 -- What a line may be answered where states are kept as nodes under their hashes.
-use Rattle.std.specs.Prelude.{◌≡◌, ◌⊎◌, ℕ, List, Option, Some}
+use Rattle.std.specs.Prelude.{◌≡◌, ◌⊎◌, ℕ, List, Option, Some, IsTrue}
 use Rattle.sdb_base.specs.declared.Block.{Block}
 use Rattle.sdb_base.specs.declared.NodeHash.{NodeHash}
 use Rattle.sdb_model.specs.Clear.{Clear}
@@ -11,7 +11,10 @@ use Rattle.sdb_script.specs.declared.Line.{Line}
 use Rattle.sdb_script.specs.declared.Line.TheVariants as lines
 use Rattle.sdb_script.specs.declared.LineReply.{LineReply}
 use Rattle.sdb_script.specs.declared.LineReply.TheVariants as replies
-use Rattle.sdb_serve.specs.Session.{answer_job}
+use Rattle.pdb_redo.specs.Creating.{HasNoGate}
+use Rattle.sdb_serve.specs.Crowding.{LoggedFits}
+use Rattle.sdb_serve.specs.Given.{Given}
+use Rattle.sdb_serve.specs.Session.{SessionState, answer_job}
 
 -- an answer to a task that was carried out, whatever the state is
 abbrev pub IsOfTask : Task → Reply → Type 0
@@ -36,8 +39,12 @@ pub record MayAnswer (blocks : List Block) (task : Task) (reply : Reply) : Type 
   pub kind : IsOfKind task (answer_job blocks task).0 reply
   pub clear : Clear (answer_job blocks task).1 → reply ≡ (answer_job blocks task).0
 
--- The reply of a line may be this, where the model's is that: a job's may differ only where two nodes have one hash.
-abbrev pub MayReply : List Block → Line → Option LineReply → Option LineReply → Type 0
-MayReply blocks (lines.Job task) (Some (replies.Job model)) reply = (said : Reply) × (reply ≡ Some (replies.Job said))
-    × IsOfKind task model said × (Clear (answer_job blocks task).1 → said ≡ model)
-MayReply blocks line model reply = reply ≡ model
+-- The reply of a line may be this, where the model's is that: a job's may differ only where the disk doesn't tell its content, or
+-- two nodes have one hash. `new` is answered only on a disk without a database, and a commit logged only where it had room.
+abbrev pub MayReply : Given → SessionState → Line → Option LineReply → Option LineReply → Type 0
+MayReply g s (lines.Job task) (Some (replies.Job model)) reply = (said : Reply) × (reply ≡ Some (replies.Job said))
+    × IsOfKind task model said × (IsTrue g.told → Clear (answer_job s.blocks task).1 → said ≡ model)
+MayReply g s (lines.New base) model reply = (reply ≡ model) × (IsTrue g.told → HasNoGate g.image)
+MayReply g s (lines.Stage stage) (Some (replies.Stage model)) reply = (reply ≡ Some (replies.Stage model))
+    × (IsTrue g.told → Clear s.blocks → LoggedFits s model)
+MayReply g s line model reply = reply ≡ model

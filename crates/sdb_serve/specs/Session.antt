@@ -2,8 +2,8 @@
 use Rattle.std.specs.Prelude.{ℕ, ◌+◌, ◌^◌, ◌==◌, not, nat_lt, Bool, true, false, List, [], ◌∷◌, ◌++◌, length, if◌then◌else◌, Option, Some, None, option_and_then}
 use Rattle.std.specs.Option.{option_map}
 use Rattle.sdb_base.specs.Pipeline.{Pipeline, with_commit}
-use Rattle.sdb_base.specs.Uncrowded.{uncrowded}
 use Rattle.sdb_base.specs.declared.Block.{Block}
+use Rattle.pdb_pipe.specs.Standing.{pipeline_at, same_bases}
 use Rattle.sdb_model.specs.Blocks.{state_of}
 use Rattle.sdb_model.specs.declared.Refusal.TheVariants.{HasGenesis, NoGenesis}
 use Rattle.sdb_model.specs.declared.Reply.{Reply}
@@ -29,15 +29,15 @@ pub record SessionState : Type 0 where
   pub blocks : List Block
   -- the bytes of the lines so far, line feeds included
   pub read : ℕ
-  -- how far the commits have come; genesis and each accepted import are one
+  -- how far the commits have come, of which genesis and each accepted import are one; before `new` none was accepted
   pub pipeline : Pipeline
 
--- no commit was accepted
-abbrev pub no_commits : Pipeline
-no_commits = uncrowded (record { accepted = 0; logged = 0; flushed = 0; enacted = 0; cleaned = 0 })
+-- no commit was accepted, and both columns have this base
+abbrev pub no_commits : ℕ → Pipeline
+no_commits base = pipeline_at 0 (same_bases base)
 
 abbrev pub first_session : SessionState
-first_session = record { begun = false; window = 0; blocks = []; read = 0; pipeline = no_commits }
+first_session = record { begun = false; window = 0; blocks = []; read = 0; pipeline = no_commits 0 }
 
 -- one job: its reply, and the blocks after it
 abbrev pub answer_job : List Block → Task → Reply × List Block
@@ -52,7 +52,7 @@ answer_job blocks (Import b) = let reply = import_reply blocks b in (reply, afte
 -- needs no genesis.
 unfoldable pub answer : SessionState → Line → Option (Option LineReply × SessionState)
 answer s lines.Blank = Some (None, s)
-answer s (lines.New base) = if s.begun then None else Some (Some replies.New, record s { begun = true })
+answer s (lines.New base) = if s.begun then None else Some (Some replies.New, record s { begun = true; pipeline = no_commits base })
 answer s (lines.Genesis window b) =
     if not s.begun then None
     else if length s.blocks == 0 then Some (Some replies.Genesis, record s { window = window; blocks = b ∷ []; pipeline = with_commit s.pipeline })

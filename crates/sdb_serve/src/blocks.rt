@@ -1,10 +1,9 @@
 ghost use Rattle.std.specs.Prelude.{◌≡◌, ◌↔◌, ◌⊎◌, ◌≤◌, ◌<◌, ◌++◌, List, [], ◌∷◌, All, length, slice_index, vec_len, vec_capacity, IsTrue, IfErr, IfOk, OnOk, OnErr, Some, None};
 ghost use Rattle.sdb_io.specs.Faults.{CountsFault};
-ghost use Rattle.sdb_base.specs.Keeping.{Commits, IsCause, disk_failed};
+ghost use Rattle.sdb_base.specs.Keeping.{Commits};
 ghost use Rattle.sdb_base.specs.Pipeline.{with_commit};
 ghost use Rattle.sdb_base.specs.declared.Block.{Block};
 ghost use Rattle.sdb_base.specs.declared.numbers.KeeperCall.TheVariants as calls;
-ghost use Rattle.sdb_base.specs.declared.numbers.StageAnswer.TheVariants as answers;
 ghost use Rattle.sdb_model.specs.Clear.{Clear};
 ghost use Rattle.sdb_model.specs.declared.task.Task.TheVariants as tasks;
 ghost use Rattle.sdb_script.specs.LineTexts.{IsBlock};
@@ -12,12 +11,11 @@ ghost use Rattle.sdb_serve.specs.Jobs.{after_import, import_reply};
 ghost use Rattle.sdb_serve.specs.Replies.{IsOfKind};
 ghost use Rattle.sdb_serve.specs.Session.{answer_job};
 ghost use Rattle.sdb_serve.specs.StageLines.{pipeline_after};
-ghost use Rattle.sdb_serve.specs.inner.Kept.{ClearsAlike, IsKeeperCause, MeetsNoBadNode, keeper_disk_failed, references_to};
+ghost use Rattle.sdb_serve.specs.BlockCommits.{references_to};
+ghost use Rattle.sdb_serve.specs.inner.Kept.{ClearsAlike, IsKeeperCause, MeetsNoBadNode, keeper_disk_failed};
 
 use crate::nodes::{NodeFault, changed, created, keep, key_above, keys_under, value_under};
-use sdb_base::{
-    Block, BlockId, Bytes, Grown, KeepFault, Keeper, Logged, NodeHash, OutOfMemory, Stages,
-};
+use sdb_base::{Block, BlockId, Bytes, Keeper, NodeHash, OutOfMemory};
 use sdb_model::{Refusal, Reply};
 use std::alloc::Global;
 use std::collections::BTreeMap;
@@ -40,7 +38,7 @@ pub(crate) struct BlockMap<K> {
     blocks: BTreeMap<BlockId, BlockEntry>,
     // how many blocks have each number
     levels: Vec<u32>,
-    keeper: K,
+    pub(crate) keeper: K,
 }
 
 impl<K: Keeper> BlockMap<K> {
@@ -61,13 +59,6 @@ impl<K: Keeper> BlockMap<K> {
             levels: Vec::new(alloc),
             keeper,
         }
-    }
-
-    /// The keeper.
-    pub(crate) fn keeper(&self) -> &K
-        ensures { result.now ≡ self.now.keeper }
-    {
-        &self.keeper
     }
 
     /// The keeper, without the blocks.
@@ -97,7 +88,7 @@ impl<K: Keeper> BlockMap<K> {
             → OnErr result (KeepsBlocks K.stands self.new [] commits) }
         ensures refused_later { (commits : Commits) → K.stands self.old.keeper commits
             → OnErr result (K.later self.old.keeper commits self.new.keeper commits) }
-        ensures after { K.comes_after self.old.keeper self.new.keeper }
+        ensures outside { K.only_reads self.old.keeper self.new.keeper }
         ensures pipeline { OnOk result (K.pipeline self.new.keeper ≡ with_commit (K.pipeline self.old.keeper)) }
         ensures unchanged { OnErr result (K.pipeline self.new.keeper ≡ K.pipeline self.old.keeper) }
         ensures counted { CountsFault (keeper_disk_failed result) (K.fault_count self.old.keeper) (K.fault_count self.new.keeper) }
@@ -131,7 +122,7 @@ impl<K: Keeper> BlockMap<K> {
         ensures keeps { (blocks : List Block) (commits : Commits) → KeepsBlocks K.stands self.old blocks commits
             → KeepsBlocks K.stands self.new blocks commits }
         ensures later { (commits : Commits) → K.stands self.old.keeper commits → K.later self.old.keeper commits self.new.keeper commits }
-        ensures after { K.comes_after self.old.keeper self.new.keeper }
+        ensures outside { K.only_reads self.old.keeper self.new.keeper }
         ensures pipeline { K.pipeline self.new.keeper ≡ K.pipeline self.old.keeper }
         ensures counted { CountsFault (keeper_disk_failed result) (K.fault_count self.old.keeper) (K.fault_count self.new.keeper) }
         ensures cause { IfErr result (IsKeeperCause (K.due self.new.keeper calls.Node)) }
@@ -157,7 +148,7 @@ impl<K: Keeper> BlockMap<K> {
         ensures keeps { (blocks : List Block) (commits : Commits) → KeepsBlocks K.stands self.old blocks commits
             → KeepsBlocks K.stands self.new blocks commits }
         ensures later { (commits : Commits) → K.stands self.old.keeper commits → K.later self.old.keeper commits self.new.keeper commits }
-        ensures after { K.comes_after self.old.keeper self.new.keeper }
+        ensures outside { K.only_reads self.old.keeper self.new.keeper }
         ensures pipeline { K.pipeline self.new.keeper ≡ K.pipeline self.old.keeper }
         ensures counted { CountsFault (keeper_disk_failed result) (K.fault_count self.old.keeper) (K.fault_count self.new.keeper) }
         ensures cause { IfErr result (IsKeeperCause (K.due self.new.keeper calls.Node)) }
@@ -183,7 +174,7 @@ impl<K: Keeper> BlockMap<K> {
         ensures keeps { (blocks : List Block) (commits : Commits) → KeepsBlocks K.stands self.old blocks commits
             → KeepsBlocks K.stands self.new blocks commits }
         ensures later { (commits : Commits) → K.stands self.old.keeper commits → K.later self.old.keeper commits self.new.keeper commits }
-        ensures after { K.comes_after self.old.keeper self.new.keeper }
+        ensures outside { K.only_reads self.old.keeper self.new.keeper }
         ensures pipeline { K.pipeline self.new.keeper ≡ K.pipeline self.old.keeper }
         ensures counted { CountsFault (keeper_disk_failed result) (K.fault_count self.old.keeper) (K.fault_count self.new.keeper) }
         ensures cause { IfErr result (IsKeeperCause (K.due self.new.keeper calls.Node)) }
@@ -229,7 +220,7 @@ impl<K: Keeper> BlockMap<K> {
             → OnErr result (K.later self.old.keeper commits self.new.keeper commits) }
         ensures sound { (blocks : List Block) (commits : Commits) → KeepsBlocks K.stands self.old blocks commits → ClearsAlike K.clear
             → Clear blocks → IfErr result MeetsNoBadNode }
-        ensures after { K.comes_after self.old.keeper self.new.keeper }
+        ensures outside { K.only_reads self.old.keeper self.new.keeper }
         ensures pipeline { IfOk result (λ reply. K.pipeline self.new.keeper ≡ pipeline_after reply (K.pipeline self.old.keeper)) }
         ensures unchanged { OnErr result (K.pipeline self.new.keeper ≡ K.pipeline self.old.keeper) }
         ensures counted { CountsFault (keeper_disk_failed result) (K.fault_count self.old.keeper) (K.fault_count self.new.keeper) }
@@ -285,7 +276,7 @@ impl<K: Keeper> BlockMap<K> {
         ensures refused { (commits : Commits) → K.stands self.old.keeper commits → OnErr result (K.stands self.new.keeper commits) }
         ensures refused_later { (commits : Commits) → K.stands self.old.keeper commits
             → OnErr result (K.later self.old.keeper commits self.new.keeper commits) }
-        ensures after { K.comes_after self.old.keeper self.new.keeper }
+        ensures outside { K.only_reads self.old.keeper self.new.keeper }
         ensures pipeline { OnOk result (K.pipeline self.new.keeper ≡ with_commit (K.pipeline self.old.keeper)) }
         ensures unchanged { OnErr result (K.pipeline self.new.keeper ≡ K.pipeline self.old.keeper) }
         ensures counted { CountsFault (keeper_disk_failed result) (K.fault_count self.old.keeper) (K.fault_count self.new.keeper) }
@@ -331,101 +322,6 @@ impl<K: Keeper> BlockMap<K> {
             self.levels[level] = count;
         } else {
             self.levels.push_reserved(count);
-        }
-    }
-}
-
-impl<K: Stages> BlockMap<K> {
-    ghost use Rattle.sdb_serve.specs.inner.Blocks.{KeepsBlocks, RepresentsBlocks};
-
-    /// Logs the oldest commit that isn't logged, or makes room for it.
-    pub(crate) fn log(&mut self) -> Result<Logged, KeepFault>
-        ensures steps { IfOk result (λ r. K.steps self.old.keeper (answers.Logged r) self.new.keeper) }
-        ensures unchanged { OnErr result (K.pipeline self.new.keeper ≡ K.pipeline self.old.keeper) }
-        ensures represents { (blocks : List Block) → RepresentsBlocks self.old blocks → RepresentsBlocks self.new blocks }
-        ensures keeps { (blocks : List Block) (commits : Commits) → KeepsBlocks K.stands self.old blocks commits
-            → KeepsBlocks K.stands self.new blocks commits }
-        ensures later { (commits : Commits) → K.stands self.old.keeper commits → K.later self.old.keeper commits self.new.keeper commits }
-        ensures after { K.comes_after self.old.keeper self.new.keeper }
-        ensures counted { CountsFault (disk_failed result) (K.fault_count self.old.keeper) (K.fault_count self.new.keeper) }
-        ensures cause { IfErr result (IsCause (K.due self.new.keeper calls.Log)) }
-    {
-        match self.keeper.log() {
-            Ok(answer) => Ok(answer),
-            Err(fault) => Err(fault),
-        }
-    }
-
-    /// Makes sure that what is logged outlasts a crash, and answers how many commits that are.
-    pub(crate) fn flush(&mut self) -> Result<u64, KeepFault>
-        ensures steps { IfOk result (λ r. K.steps self.old.keeper (answers.Flushed r) self.new.keeper) }
-        ensures unchanged { OnErr result (K.pipeline self.new.keeper ≡ K.pipeline self.old.keeper) }
-        ensures represents { (blocks : List Block) → RepresentsBlocks self.old blocks → RepresentsBlocks self.new blocks }
-        ensures keeps { (blocks : List Block) (commits : Commits) → KeepsBlocks K.stands self.old blocks commits
-            → KeepsBlocks K.stands self.new blocks commits }
-        ensures later { (commits : Commits) → K.stands self.old.keeper commits → K.later self.old.keeper commits self.new.keeper commits }
-        ensures after { K.comes_after self.old.keeper self.new.keeper }
-        ensures counted { CountsFault (disk_failed result) (K.fault_count self.old.keeper) (K.fault_count self.new.keeper) }
-        ensures cause { IfErr result (IsCause (K.due self.new.keeper calls.Flush)) }
-    {
-        match self.keeper.flush() {
-            Ok(answer) => Ok(answer),
-            Err(fault) => Err(fault),
-        }
-    }
-
-    /// Writes the oldest flushed record that isn't enacted to the tables, and answers its number of commits; none where there is no
-    /// such record.
-    pub(crate) fn enact(&mut self) -> Result<Option<u64>, KeepFault>
-        ensures steps { IfOk result (λ r. K.steps self.old.keeper (answers.Enacted r) self.new.keeper) }
-        ensures unchanged { OnErr result (K.pipeline self.new.keeper ≡ K.pipeline self.old.keeper) }
-        ensures represents { (blocks : List Block) → RepresentsBlocks self.old blocks → RepresentsBlocks self.new blocks }
-        ensures keeps { (blocks : List Block) (commits : Commits) → KeepsBlocks K.stands self.old blocks commits
-            → KeepsBlocks K.stands self.new blocks commits }
-        ensures later { (commits : Commits) → K.stands self.old.keeper commits → K.later self.old.keeper commits self.new.keeper commits }
-        ensures after { K.comes_after self.old.keeper self.new.keeper }
-        ensures counted { CountsFault (disk_failed result) (K.fault_count self.old.keeper) (K.fault_count self.new.keeper) }
-        ensures cause { IfErr result (IsCause (K.due self.new.keeper calls.Enact)) }
-    {
-        match self.keeper.enact() {
-            Ok(answer) => Ok(answer),
-            Err(fault) => Err(fault),
-        }
-    }
-
-    /// Makes sure that what is enacted outlasts a crash without its records, and answers how many commits that are.
-    pub(crate) fn clean(&mut self) -> Result<u64, KeepFault>
-        ensures steps { IfOk result (λ r. K.steps self.old.keeper (answers.Cleaned r) self.new.keeper) }
-        ensures unchanged { OnErr result (K.pipeline self.new.keeper ≡ K.pipeline self.old.keeper) }
-        ensures represents { (blocks : List Block) → RepresentsBlocks self.old blocks → RepresentsBlocks self.new blocks }
-        ensures keeps { (blocks : List Block) (commits : Commits) → KeepsBlocks K.stands self.old blocks commits
-            → KeepsBlocks K.stands self.new blocks commits }
-        ensures later { (commits : Commits) → K.stands self.old.keeper commits → K.later self.old.keeper commits self.new.keeper commits }
-        ensures after { K.comes_after self.old.keeper self.new.keeper }
-        ensures counted { CountsFault (disk_failed result) (K.fault_count self.old.keeper) (K.fault_count self.new.keeper) }
-        ensures cause { IfErr result (IsCause (K.due self.new.keeper calls.Clean)) }
-    {
-        match self.keeper.clean() {
-            Ok(answer) => Ok(answer),
-            Err(fault) => Err(fault),
-        }
-    }
-
-    /// Moves a batch of an index that grows.
-    pub(crate) fn grow(&mut self) -> Result<Grown, KeepFault>
-        ensures steps { IfOk result (λ r. K.steps self.old.keeper (answers.Grown r) self.new.keeper) }
-        ensures unchanged { OnErr result (K.pipeline self.new.keeper ≡ K.pipeline self.old.keeper) }
-        ensures represents { (blocks : List Block) → RepresentsBlocks self.old blocks → RepresentsBlocks self.new blocks }
-        ensures keeps { (blocks : List Block) (commits : Commits) → KeepsBlocks K.stands self.old blocks commits
-            → KeepsBlocks K.stands self.new blocks commits }
-        ensures later { (commits : Commits) → K.stands self.old.keeper commits → K.later self.old.keeper commits self.new.keeper commits }
-        ensures after { K.comes_after self.old.keeper self.new.keeper }
-        ensures counted { CountsFault (disk_failed result) (K.fault_count self.old.keeper) (K.fault_count self.new.keeper) }
-        ensures cause { IfErr result (IsCause (K.due self.new.keeper calls.Grow)) }
-    {
-        match self.keeper.grow() {
-            Ok(answer) => Ok(answer),
-            Err(fault) => Err(fault),
         }
     }
 }

@@ -1,8 +1,11 @@
-ghost use Rattle.std.specs.Prelude.{◌≡◌, ◌↔◌, ℕ, List, [], ◌∷◌, ◌++◌, codes, Some, None};
+ghost use Rattle.std.specs.Prelude.{◌≡◌, ◌↔◌, ℕ, List, [], ◌∷◌, ◌++◌, codes, Some, None, IsTrue};
 ghost use Rattle.sdb_base.specs.Pipeline.{Pipeline, StepsUncrowded};
 ghost use Rattle.sdb_base.specs.declared.NodeHash.{NodeHash};
 ghost use Rattle.sdb_base.specs.declared.numbers.StageAnswer.{StageAnswer};
 ghost use Rattle.sdb_model.specs.Clear.{Clear};
+ghost use Rattle.sdb_base.specs.declared.Counter.{Counter};
+ghost use Rattle.sdb_serve.specs.Given.{Given};
+ghost use Rattle.sdb_serve.specs.Marks.{MarksRise};
 ghost use Rattle.sdb_serve.specs.Runs.{IsFirstBad, IsRun, IsScript, Run, last_line, usage_line};
 ghost use Rattle.sdb_serve.specs.Session.{SessionState, first_session, play_line, play_lines};
 ghost use Rattle.sdb_serve.specs.StageLines.{IsInOrder, after_stage, stage_answered, stage_reply};
@@ -12,15 +15,15 @@ use crate::cause::Cause;
 
 /// An input has one first bad line, or none where it is a script.
 pub fn first_bad_line_is_one()
-    ensures one { (input : List ℕ) (m n : ℕ) → IsFirstBad input m → IsFirstBad input n → m ≡ n }
-    ensures none { (input : List ℕ) (n : ℕ) → IsScript input → IsFirstBad input n → ⊥ }
+    ensures one { (g : Given) (input : List ℕ) (m n : ℕ) → IsFirstBad g input m → IsFirstBad g input n → m ≡ n }
+    ensures none { (g : Given) (input : List ℕ) (n : ℕ) → IsScript g input → IsFirstBad g input n → ⊥ }
 {}
 
-/// Where no two different nodes of the states of a run's blocks have one hash, its replies are those of the plain player
-/// of lines, and so is what is known after it.
+/// Where the disk tells its content and no two different nodes of the states of a run's blocks have one hash, its replies are
+/// those of the plain player of lines, and so is what is known after it.
 pub fn a_clear_run_is_the_models()
-    ensures { (r : Run) (input : List ℕ) → IsRun r input → Clear r.session.blocks
-        → play_lines first_session r.lines ≡ Some (r.replies, r.session) }
+    ensures { (g : Given) (r : Run) (input : List ℕ) → IsRun g r input → IsTrue g.told → Clear r.at.session.blocks
+        → play_lines first_session r.lines ≡ Some (r.replies, r.at.session) }
 {}
 
 /// Where no more records are flushed than wait, and no more commits logged than were accepted, a stage line is answered as the
@@ -32,7 +35,13 @@ pub fn a_stage_has_one_answer()
 
 /// So it is after each run.
 pub fn commits_come_in_order()
-    ensures { (r : Run) (input : List ℕ) → IsRun r input → IsInOrder r.session.pipeline }
+    ensures { (g : Given) (r : Run) (input : List ℕ) → IsRun g r input → IsInOrder r.at.session.pipeline }
+{}
+
+/// The marks of a run are of rising lines, none beyond those that it has read; their clocks don't fall, none is above the disk's
+/// clock then, and no mark has more flushed commits than accepted ones.
+pub fn marks_rise()
+    ensures { (g : Given) (r : Run) (input : List ℕ) → IsRun g r input → MarksRise 0 g.clock r.at.lines r.at.clock r.at.marks }
 {}
 
 /// A script may have 1,099,511,627,776 bytes: an empty line, of one byte, is answered where it is the last of them, and
@@ -59,5 +68,21 @@ pub fn known_ends()
         ∷ 0 ∷ 17 ∷ 34 ∷ 51 ∷ 68 ∷ 85 ∷ 102 ∷ 119 ∷ 136 ∷ 153 ∷ 170 ∷ 187 ∷ 204 ∷ 221 ∷ 238 ∷ 255 ∷ []
         → (status_code (status_of (Cause.BadNode hash)) ≡ 9) × (last_line (Cause.BadNode hash) 6
         ≡ (codes "stop 9 node 0f1e2d3c4b5a69788796a5b4c3d2e1f000112233445566778899aabbccddeeff" ++ 10 ∷ []) ∷ []) }
+    // "stop 6" and "stop 8"
+    ensures disk { (status_code (status_of Cause.Disk) ≡ 6) × (last_line Cause.Disk 6
+        ≡ (115 ∷ 116 ∷ 111 ∷ 112 ∷ 32 ∷ 54 ∷ 10 ∷ []) ∷ []) }
+    ensures occupied { (status_code (status_of Cause.Occupied) ≡ 8) × (last_line Cause.Occupied 6
+        ≡ (115 ∷ 116 ∷ 111 ∷ 112 ∷ 32 ∷ 56 ∷ 10 ∷ []) ∷ []) }
+    ensures bad_cell { (status_code (status_of (Cause.BadCell 23 4294967295)) ≡ 9)
+        × (last_line (Cause.BadCell 23 4294967295) 6 ≡ (codes "stop 9 cell 23 4294967295" ++ 10 ∷ []) ∷ []) }
+    ensures index_full { (status_code (status_of (Cause.IndexFull 1 16 65535)) ≡ 10)
+        × (last_line (Cause.IndexFull 1 16 65535) 6 ≡ (codes "stop 10 1 16 65535" ++ 10 ∷ []) ∷ []) }
+    ensures tier_full { (status_code (status_of (Cause.TierFull 0 15)) ≡ 12)
+        × (last_line (Cause.TierFull 0 15) 6 ≡ (codes "stop 12 0 15" ++ 10 ∷ []) ∷ []) }
+    ensures numbers_end { (status_code (status_of (Cause.NumbersEnd Counter.Gates)) ≡ 13)
+        × (last_line (Cause.NumbersEnd Counter.Commits) 6 ≡ (codes "stop 13 commits" ++ 10 ∷ []) ∷ [])
+        × (last_line (Cause.NumbersEnd Counter.Records) 6 ≡ (codes "stop 13 records" ++ 10 ∷ []) ∷ [])
+        × (last_line (Cause.NumbersEnd Counter.Gates) 6 ≡ (codes "stop 13 gates" ++ 10 ∷ []) ∷ [])
+        × (last_line (Cause.NumbersEnd Counter.LogBytes) 6 ≡ (codes "stop 13 log" ++ 10 ∷ []) ∷ []) }
     ensures usage { usage_line ≡ 115 ∷ 116 ∷ 111 ∷ 112 ∷ 32 ∷ 50 ∷ 10 ∷ [] }
 {}

@@ -11,7 +11,8 @@ ghost use Rattle.trie_model.specs.Limits.{ChangesAreWithin};
 ghost use Rattle.trie_model.specs.Nodes.{stored_nodes};
 ghost use Rattle.trie_model.specs.Trie.{trie_root};
 ghost use Rattle.sdb_blake2.specs.Blake2b.{H};
-ghost use Rattle.sdb_serve.specs.inner.Kept.{ClearsAlike, IsKeeperCause, IsKept, IsKeptState, MeetsNoBadNode, keeper_disk_failed, references_to};
+ghost use Rattle.sdb_serve.specs.BlockCommits.{references_to};
+ghost use Rattle.sdb_serve.specs.inner.Kept.{ClearsAlike, IsKeeperCause, IsKept, IsKeptState, MeetsNoBadNode, keeper_disk_failed};
 ghost use Rattle.sdb_serve.specs.declared.nodes.NodeFault.TheVariants as faults;
 
 use sdb_base::{Bytes, Changes, KeepFault, Keeper, Keys, NodeHash, NodeList, Op, Ops, OutOfMemory};
@@ -81,7 +82,7 @@ fn fetch<K: Keeper>(keeper: &mut K, hash: &NodeHash) -> Result<Bytes, NodeFault>
         → IsKept commits bytes → hash.now.0 ≡ H bytes → IfErr result MeetsNoBadNode }
     ensures stands { (commits : Commits) → K.stands keeper.old commits → K.stands keeper.new commits }
     ensures later { (commits : Commits) → K.stands keeper.old commits → K.later keeper.old commits keeper.new commits }
-    ensures after { K.comes_after keeper.old keeper.new }
+    ensures outside { K.only_reads keeper.old keeper.new }
     ensures pipeline { K.pipeline keeper.new ≡ K.pipeline keeper.old }
     ensures counted { CountsFault (keeper_disk_failed result) (K.fault_count keeper.old) (K.fault_count keeper.new) }
     ensures cause { IfErr result (IsKeeperCause (K.due keeper.new calls.Node)) }
@@ -106,7 +107,7 @@ pub(crate) fn value_under<K: Keeper>(
         → IfErr result MeetsNoBadNode }
     ensures stands { (commits : Commits) → K.stands keeper.old commits → K.stands keeper.new commits }
     ensures later { (commits : Commits) → K.stands keeper.old commits → K.later keeper.old commits keeper.new commits }
-    ensures after { K.comes_after keeper.old keeper.new }
+    ensures outside { K.only_reads keeper.old keeper.new }
     ensures pipeline { K.pipeline keeper.new ≡ K.pipeline keeper.old }
     ensures counted { CountsFault (keeper_disk_failed result) (K.fault_count keeper.old) (K.fault_count keeper.new) }
     ensures cause { IfErr result (IsKeeperCause (K.due keeper.new calls.Node)) }
@@ -135,7 +136,7 @@ pub(crate) fn key_above<K: Keeper>(
         → IfErr result MeetsNoBadNode }
     ensures stands { (commits : Commits) → K.stands keeper.old commits → K.stands keeper.new commits }
     ensures later { (commits : Commits) → K.stands keeper.old commits → K.later keeper.old commits keeper.new commits }
-    ensures after { K.comes_after keeper.old keeper.new }
+    ensures outside { K.only_reads keeper.old keeper.new }
     ensures pipeline { K.pipeline keeper.new ≡ K.pipeline keeper.old }
     ensures counted { CountsFault (keeper_disk_failed result) (K.fault_count keeper.old) (K.fault_count keeper.new) }
     ensures cause { IfErr result (IsKeeperCause (K.due keeper.new calls.Node)) }
@@ -164,7 +165,7 @@ pub(crate) fn keys_under<K: Keeper>(
         → IfErr result MeetsNoBadNode }
     ensures stands { (commits : Commits) → K.stands keeper.old commits → K.stands keeper.new commits }
     ensures later { (commits : Commits) → K.stands keeper.old commits → K.later keeper.old commits keeper.new commits }
-    ensures after { K.comes_after keeper.old keeper.new }
+    ensures outside { K.only_reads keeper.old keeper.new }
     ensures pipeline { K.pipeline keeper.new ≡ K.pipeline keeper.old }
     ensures counted { CountsFault (keeper_disk_failed result) (K.fault_count keeper.old) (K.fault_count keeper.new) }
     ensures cause { IfErr result (IsKeeperCause (K.due keeper.new calls.Node)) }
@@ -195,7 +196,7 @@ pub(crate) fn changed<K: Keeper>(
     ensures short { IfOk result (λ d. All (λ n. length n.bytes ≤ 4200000) d.puts) }
     ensures stands { (commits : Commits) → K.stands keeper.old commits → K.stands keeper.new commits }
     ensures later { (commits : Commits) → K.stands keeper.old commits → K.later keeper.old commits keeper.new commits }
-    ensures after { K.comes_after keeper.old keeper.new }
+    ensures outside { K.only_reads keeper.old keeper.new }
     ensures pipeline { K.pipeline keeper.new ≡ K.pipeline keeper.old }
     ensures counted { CountsFault (keeper_disk_failed result) (K.fault_count keeper.old) (K.fault_count keeper.new) }
     ensures cause { IfErr result (IsKeeperCause (K.due keeper.new calls.Node)) }
@@ -235,7 +236,7 @@ pub(crate) fn keep<K: Keeper>(
     ensures refused { (commits : Commits) → K.stands keeper.old commits → OnErr result (K.stands keeper.new commits) }
     ensures refused_later { (commits : Commits) → K.stands keeper.old commits
         → OnErr result (K.later keeper.old commits keeper.new commits) }
-    ensures after { K.comes_after keeper.old keeper.new }
+    ensures outside { K.only_reads keeper.old keeper.new }
     ensures pipeline { OnOk result (K.pipeline keeper.new ≡ with_commit (K.pipeline keeper.old)) }
     ensures unchanged { OnErr result (K.pipeline keeper.new ≡ K.pipeline keeper.old) }
     ensures counted { CountsFault (keeper_disk_failed result) (K.fault_count keeper.old) (K.fault_count keeper.new) }

@@ -1,11 +1,13 @@
 ghost use Rattle.std.specs.Prelude.{◌≡◌, ◌≢◌, ◌⊎◌, ◌≤◌, ◌<◌, ◌+◌, ◌-◌, ℕ, List, [], ◌++◌, length, take, drop, slice_index, slice_range, Option, Some, None, MatchOption, IfOk, IfErr, OnOk, OnErr, IsErrOf, vec_len};
 ghost use Rattle.sdb_script.specs.Grammar.{most_in_line};
-ghost use Rattle.sdb_serve.specs.Session.{SessionState, first_session};
-ghost use Rattle.sdb_serve.specs.Runs.{BeginsWith, HasNoLineFeed, IsNear, IsRun, Run, Waits, most_taken};
-ghost use Rattle.sdb_serve.specs.inner.Steps.{CountsWhere, Halts, IsAt, LineAnswered, LineStops, PieceAnswered, Represents};
+ghost use Rattle.sdb_serve.specs.Marks.{Reached};
+ghost use Rattle.sdb_serve.specs.Runs.{BeginsWith, HasNoLineFeed, Run, most_taken};
+ghost use Rattle.sdb_serve.specs.inner.Steps.{CountsDisk, CountsWhere, GoesOn, Halts, IsAt, LineAnswered, LineStops, PieceAnswered};
+ghost use Rattle.sdb_serve.specs.inner.Stores.{Represents};
 
 use crate::cause::{Cause, Stop};
 use crate::session::Session;
+use pdb_disk::Disk;
 use sdb_io::{Sink, Source};
 use sdb_script::MOST_IN_LINE;
 use std::alloc::{AllocError, Global};
@@ -24,16 +26,18 @@ fn line_feed(bytes: &[u8], from: usize) -> Option<usize>
 }
 
 /// Answers one line, and writes its reply by one call of the sink. A line without a reply writes nothing.
-fn answer_line<K: Sink>(
-    session: &mut Session,
+fn answer_line<K: Sink, D: Disk + Drop>(
+    session: &mut Session<D>,
     line: &[u8],
     text: &mut Vec<u8>,
     sink: &mut K,
 ) -> Result<(), Stop>
-    ensures answered { (s : SessionState) → Represents session.old s
-        → OnOk result (LineAnswered s line.now session.new (K.got sink.old) (K.got sink.new)) }
-    ensures stopped { (r : Run) (rest : List ℕ) → Represents session.old r.session → BeginsWith r.more line.now rest
-        → IfErr result (λ stop. LineStops stop r (K.got sink.old) (K.got sink.new)) }
+    ensures answered { (given : D) (a : Reached) → Represents D.tells D.clock D.past given session.old a
+        → OnOk result (LineAnswered D.tells D.clock D.past given a line.now session.new (K.got sink.old) (K.got sink.new)) }
+    ensures stopped { (given : D) (r : Run) (rest : List ℕ) → Represents D.tells D.clock D.past given session.old r.at
+        → BeginsWith r.more line.now rest
+        → IfErr result (λ stop. LineStops D.tells D.clock D.past given stop r session.new (K.got sink.old) (K.got sink.new)) }
+    ensures disk { (given : D) → CountsDisk D.tells D.clock D.past given D.fault_count (IsErrOf result (Stop.Cause Cause.Disk)) session.old session.new }
     ensures lines { OnOk result (session.new.lines ≡ session.old.lines + 1) }
     // A reply at which the sink failed is counted; nothing uses the count then.
     ensures same_lines { IfErr result (λ stop. stop ≢ Stop.SinkFault → session.new.lines ≡ session.old.lines) }
@@ -51,8 +55,8 @@ fn answer_line<K: Sink>(
 
 /// Answers the lines that are ended in a piece of the input, and says how many of its bytes that took. No line feed
 /// is before `from`.
-fn answer_lines<K: Sink>(
-    session: &mut Session,
+fn answer_lines<K: Sink, D: Disk + Drop>(
+    session: &mut Session<D>,
     piece: &[u8],
     from: usize,
     text: &mut Vec<u8>,
@@ -60,12 +64,14 @@ fn answer_lines<K: Sink>(
 ) -> Result<usize, Stop>
     requires within { from ≤ length piece.now }
     requires near { (from ≤ most_in_line) × (length piece.now ≤ from + most_taken) }
-    ensures answered { (input rest : List ℕ) (r : Run) → HasNoLineFeed (take from piece.now)
-        → IsAt r input session.old (piece.now ++ rest)
-        → IfOk result (λ used. PieceAnswered used piece.now rest r input session.new (K.got sink.old) (K.got sink.new)) }
-    ensures stopped { (input rest : List ℕ) (r : Run) → HasNoLineFeed (take from piece.now)
-        → IsAt r input session.old (piece.now ++ rest)
-        → IfErr result (λ stop. Halts stop r input session.new (Some rest) (K.got sink.old) (K.got sink.new)) }
+    ensures answered { (given : D) (input rest : List ℕ) (r : Run) → HasNoLineFeed (take from piece.now)
+        → IsAt D.tells D.clock D.past given r input session.old (piece.now ++ rest)
+        → IfOk result (λ used. PieceAnswered D.tells D.clock D.past given used piece.now rest r input session.new (K.got sink.old) (K.got sink.new)) }
+    ensures stopped { (given : D) (input rest : List ℕ) (r : Run) → HasNoLineFeed (take from piece.now)
+        → IsAt D.tells D.clock D.past given r input session.old (piece.now ++ rest)
+        → IfErr result (λ stop. Halts D.tells D.clock D.past given stop r input session.new (Some rest) (K.got sink.old) (K.got sink.new)) }
+    ensures goes_on { (given : D) → OnOk result (GoesOn D.tells D.clock D.past given D.fault_count session.old session.new) }
+    ensures disk { (given : D) → CountsDisk D.tells D.clock D.past given D.fault_count (IsErrOf result (Stop.Cause Cause.Disk)) session.old session.new }
     ensures none_left { HasNoLineFeed (take from piece.now) → IfOk result (λ used. HasNoLineFeed (drop used piece.now)) }
     ensures used { IfOk result (λ used. used ≤ length piece.now) }
     ensures read { IfOk result (λ used. session.new.read ≡ session.old.read + used) }
@@ -83,14 +89,16 @@ fn answer_lines<K: Sink>(
 }
 
 /// Reads the source to its end, and answers each line, until a cause or the sink stops it.
-pub(crate) fn read_lines<S: Source, K: Sink>(
+pub(crate) fn read_lines<S: Source, K: Sink, D: Disk + Drop>(
     alloc: Global,
-    session: &mut Session,
+    session: &mut Session<D>,
     source: &mut S,
     sink: &mut K,
 ) -> Stop
-    ensures stopped { (input : List ℕ) (r : Run) → S.left source.old ≡ Some input → IsAt r input session.old input
-        → Halts result r input session.new (S.left source.new) (K.got sink.old) (K.got sink.new) }
+    ensures stopped { (given : D) (input : List ℕ) (r : Run) → S.left source.old ≡ Some input
+        → IsAt D.tells D.clock D.past given r input session.old input
+        → Halts D.tells D.clock D.past given result r input session.new (S.left source.new) (K.got sink.old) (K.got sink.new) }
+    ensures disk { (given : D) → CountsDisk D.tells D.clock D.past given D.fault_count (result ≡ Stop.Cause Cause.Disk) session.old session.new }
     ensures to_its_end { (input : List ℕ) → S.left source.old ≡ Some input → result ≡ Stop.Cause Cause.End
         → S.left source.new ≡ Some [] }
     ensures source { CountsWhere (result ≡ Stop.Cause Cause.Source) (S.fault_count source.old) (S.fault_count source.new) }

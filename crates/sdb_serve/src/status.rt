@@ -14,11 +14,21 @@ pub enum Status {
     SourceFault,
     /// 5: the sink failed.
     SinkFault,
-    /// 9: what is kept under a hash is no node of a trie that hangs where it is wanted, or nothing is. That comes only where
-    /// two different nodes have one hash.
+    /// 6: the disk failed.
+    DiskFault,
+    /// 8: `new` was to make a database on a disk that has one.
+    Occupied,
+    /// 9: a cell of the database breaks the rules of its file, or what is kept under a hash is no node of a trie that hangs
+    /// where it is wanted, or nothing is.
     Damaged,
+    /// 10: the commit to be logged finds no room in an index.
+    IndexFull,
     /// 11: there was no memory.
     NoMemory,
+    /// 12: the commit to be logged finds no slot in a value table.
+    TierFull,
+    /// 13: a counter stands at its end.
+    NumbersEnd,
 }
 
 impl Status {
@@ -34,8 +44,13 @@ impl Status {
             Status::Script => 3,
             Status::SourceFault => 4,
             Status::SinkFault => 5,
+            Status::DiskFault => 6,
+            Status::Occupied => 8,
             Status::Damaged => 9,
+            Status::IndexFull => 10,
             Status::NoMemory => 11,
+            Status::TierFull => 12,
+            Status::NumbersEnd => 13,
         }
     }
 }

@@ -2,7 +2,8 @@ ghost use Rattle.std.specs.Prelude.{◌≡◌, ◌≤◌, length, is_err, IfOk};
 ghost use Rattle.sdb_io.specs.Faults.{CountsFault};
 ghost use Rattle.sdb_io.specs.Memory.{failed_takes};
 
-use sdb_base::{Bytes, Words};
+use crate::runs::{Fails, NONE_FAILS, lines, script_words, tried};
+use pdb_memdisk::MemDisk;
 use sdb_io::{MemSink, MemSource, Source, SourceFault};
 use sdb_serve::{Status, run};
 use std::alloc::{AllocError, Global};
@@ -161,71 +162,80 @@ const OTHER_WORDS: [&[&str]; 5] = [
     &["scripts"],
 ];
 
-// The call of the source and that of the sink that fail, the words, the input, the exit code and what is written.
-const FAULTS: [(Option<u64>, Option<u64>, &[&str], &str, u8, &str); 5] = [
+// Which call of the source, of the sink and of the disk fails, the words, the input, the exit code and what is written. Of the calls of the disk, `new` makes two reads of gate
+// slots, then cuts and syncs each of the 42 files, writes two head cells and syncs them, and writes a gate slot and syncs it: 91.
+const FAULTS: [(Fails, &[&str], &str, u8, &str); 10] = [
     (
-        None,
-        Some(2),
+        (None, Some(2), None),
         &["script"],
         "new 0|genesis 01 4 aa=01 bb=07|import 02 01 aa=02|read 02 aa|",
         5,
         "new|genesis|",
     ),
-    (Some(1), None, &["script"], "new 0|", 4, "new|stop 4|"),
-    (None, Some(0), &["-h"], "", 5, ""),
+    (
+        (Some(1), None, None),
+        &["script"],
+        "new 0|",
+        4,
+        "new|stop 4|",
+    ),
+    ((None, Some(0), None), &["-h"], "", 5, ""),
     // both fail: the source, and the sink at the last line for it
-    (Some(1), Some(1), &["script"], "new 0|", 5, "new|"),
-    (None, Some(1), &["script"], "new 0|new 0|", 5, "new|"),
+    ((Some(1), Some(1), None), &["script"], "new 0|", 5, "new|"),
+    (
+        (None, Some(1), None),
+        &["script"],
+        "new 0|new 0|",
+        5,
+        "new|",
+    ),
+    // the first sync
+    (
+        (None, None, Some(3)),
+        &["script"],
+        "new 0|genesis 01 4|",
+        6,
+        "stop 6|",
+    ),
+    // the first read, and the last call of `new`
+    (
+        (None, None, Some(0)),
+        &["script"],
+        "new 0|genesis 01 4|",
+        6,
+        "stop 6|",
+    ),
+    (
+        (None, None, Some(90)),
+        &["script"],
+        "new 0|genesis 01 4|",
+        6,
+        "stop 6|",
+    ),
+    // the record of the first commit, after its chunk was read
+    (
+        (None, None, Some(92)),
+        &["script"],
+        "new 0|genesis 01 4 aa=01|read 01 aa|log|read 01 aa|",
+        6,
+        "new|genesis|value 01|stop 6|",
+    ),
+    // the disk, and the sink at the last line for it
+    ((None, Some(0), Some(3)), &["script"], "new 0|", 5, ""),
 ];
-
-// The bytes of a text, with a line feed for each bar.
-fn lines(alloc: Global, text: &str) -> Result<Vec<u8>, AllocError> {
-    let mut bytes = Vec::from_slice(alloc, text.as_bytes())?;
-    for byte in bytes.iter_mut() {
-        if *byte == b'|' {
-            *byte = b'\n';
-        }
-    }
-    Ok(bytes)
-}
-
-// The exit code of a run over these words and this input, and what it writes. A call of the source and one of the
-// sink may be made to fail.
-fn outcome(
-    alloc: Global,
-    words: &[&str],
-    input: &[u8],
-    failing_take: Option<u64>,
-    failing_put: Option<u64>,
-) -> Result<(u8, Vec<u8>), AllocError> {
-    let mut list = Words::new(alloc);
-    for word in words {
-        list.push(Bytes::from_slice(alloc, word.as_bytes())?)?;
-    }
-    let mut source = MemSource::new(alloc, input)?;
-    if let Some(call) = failing_take {
-        source.fail_at(call)?;
-    }
-    let mut sink = MemSink::new(alloc);
-    if let Some(call) = failing_put {
-        sink.fail_at(call)?;
-    }
-    let status = run(alloc, &list, &mut source, &mut sink);
-    Ok((status.code(), Vec::from_slice(alloc, sink.bytes())?))
-}
 
 #[test]
 fn replies_to_scripts(rt: HostRuntime) -> Result<(), Fail> {
     let alloc = rt.alloc();
     for (script, want) in ANSWERED {
         let input = lines(alloc, script)?;
-        let (code, written) = outcome(alloc, &["script"], &input, None, None)?;
+        let (code, written) = tried(alloc, &["script"], &input, NONE_FAILS)?;
         assert_eq!(rt; code, 0, "{script}");
         assert_eq!(rt; written, lines(alloc, want)?, "{script}");
     }
     for (script, want) in STOPPED {
         let input = lines(alloc, script)?;
-        let (code, written) = outcome(alloc, &["script"], &input, None, None)?;
+        let (code, written) = tried(alloc, &["script"], &input, NONE_FAILS)?;
         assert_eq!(rt; code, 3, "{script}");
         assert_eq!(rt; written, lines(alloc, want)?, "{script}");
     }
@@ -236,13 +246,13 @@ fn replies_to_scripts(rt: HostRuntime) -> Result<(), Fail> {
 fn other_words_and_faults(rt: HostRuntime) -> Result<(), Fail> {
     let alloc = rt.alloc();
     for words in OTHER_WORDS {
-        let (code, written) = outcome(alloc, words, b"new 0\n", None, None)?;
+        let (code, written) = tried(alloc, words, b"new 0\n", NONE_FAILS)?;
         assert_eq!(rt; code, 2, "{words:?}");
         assert_eq!(rt; written.as_slice(), b"stop 2\n".as_slice(), "{words:?}");
     }
-    for (failing_take, failing_put, words, script, want_code, want) in FAULTS {
+    for (fails, words, script, want_code, want) in FAULTS {
         let input = lines(alloc, script)?;
-        let (code, written) = outcome(alloc, words, &input, failing_take, failing_put)?;
+        let (code, written) = tried(alloc, words, &input, fails)?;
         assert_eq!(rt; code, want_code, "{script}");
         assert_eq!(rt; written, lines(alloc, want)?, "{script}");
     }
@@ -281,7 +291,7 @@ fn a_number_has_at_most_32_blocks(rt: HostRuntime) -> Result<(), Fail> {
             "refused 4 UnknownParent\nrefused 3 AlreadyExists\nrefused 6 TooManySiblings {number}\nrefused 1 UnknownBlock\n"
         )?;
         want.extend_from_slice(refused.as_bytes())?;
-        let (code, written) = outcome(alloc, &["script"], &script, None, None)?;
+        let (code, written) = tried(alloc, &["script"], &script, NONE_FAILS)?;
         assert_eq!(rt; code, 0, "{before}");
         assert_eq!(rt; written, want, "{before}");
     }
@@ -334,8 +344,7 @@ const CALLS: [(&str, usize, u8, u64); 6] = [
 #[test]
 fn a_source_is_asked_only_where_no_line_waits(rt: HostRuntime) -> Result<(), Fail> {
     let alloc = rt.alloc();
-    let mut words = Words::new(alloc);
-    words.push(Bytes::from_slice(alloc, b"script")?)?;
+    let words = script_words(alloc)?;
     for (script, most, want, calls) in CALLS {
         let input = lines(alloc, script)?;
         let mut source = Counted {
@@ -346,7 +355,9 @@ fn a_source_is_asked_only_where_no_line_waits(rt: HostRuntime) -> Result<(), Fai
         };
         let mut sink = MemSink::new(alloc);
         assert_eq!(rt;
-            run(alloc, &words, &mut source, &mut sink).code(),
+            run(alloc, &words, &mut source, &mut sink, MemDisk::new(alloc))
+                .status
+                .code(),
             want,
             "{script}"
         );
@@ -364,7 +375,13 @@ fn exit_codes(rt: HostRuntime) -> Result<(), Fail> {
         (Status::Script, 3),
         (Status::SourceFault, 4),
         (Status::SinkFault, 5),
+        (Status::DiskFault, 6),
+        (Status::Occupied, 8),
+        (Status::Damaged, 9),
+        (Status::IndexFull, 10),
         (Status::NoMemory, 11),
+        (Status::TierFull, 12),
+        (Status::NumbersEnd, 13),
     ] {
         assert_eq!(rt; status.code(), code);
     }

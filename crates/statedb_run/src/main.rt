@@ -1,9 +1,9 @@
-//! The program: it hands its words, standard input and standard output to the top call, and ends with the
-//! status as its exit code.
+//! The program: it hands its words, standard input, standard output and the files of the working folder to the top call, and ends
+//! with the status as its exit code.
 //!
-//! The two streams are those of `sdb_host`. Nothing can be said in a contract of a terminal or a pipe, so a whole run is
-//! tried by running it. The functions here say what the words are, what is written where there is no memory for them,
-//! and which exit code a status has.
+//! The streams and the disk are those of `sdb_host`. Nothing can be said in a contract of a terminal, a pipe or a file, so a whole
+//! run is tried by running it. The functions here say what the words are, what is written where there is no memory for them, and
+//! which exit code a status has.
 #![tactic(auto)]
 
 ghost use Rattle.std.specs.Prelude.{◌≡◌, ◌⊎◌, true, false, List, ℕ, [], ◌∷◌, map, drop, string_bytes, IfOk};
@@ -15,7 +15,7 @@ ghost use Rattle.sdb_serve.specs.Runs.{last_line};
 ghost use Rattle.sdb_serve.specs.Statuses.{status_code};
 
 use sdb_base::{Bytes, OutOfMemory, Words};
-use sdb_host::{Stdin, Stdout};
+use sdb_host::{HostDisk, Stdin, Stdout};
 use sdb_io::Sink;
 use sdb_serve::{Cause, Status, run};
 use std::alloc::{AllocError, Global};
@@ -51,7 +51,10 @@ fn main(rt: HostRuntime) -> ExitCode {
     let mut source = Stdin::new(rt.reader());
     let mut sink = Stdout::new(io::writer(&rt));
     let status = match words(&rt, alloc) {
-        Ok(words) => run(alloc, &words, &mut source, &mut sink),
+        Ok(words) => {
+            let disk = HostDisk::new(alloc, rt);
+            run(alloc, &words, &mut source, &mut sink, disk).status
+        }
         Err(_) => close_without_memory(&mut sink),
     };
     exit_code(status)

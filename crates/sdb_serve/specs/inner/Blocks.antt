@@ -1,5 +1,5 @@
 -- The map of the accepted blocks, and the commits of their states' nodes.
-use Rattle.std.specs.Prelude.{◌≡◌, ◌<◌, ℕ, All, Any, nat_lt, List, [], ◌∷◌, ◌++◌, slice_index, slice_set, length, map, if◌then◌else◌, Option, Some, None}
+use Rattle.std.specs.Prelude.{◌≡◌, ◌<◌, ℕ, All, Any, nat_lt, List, [], ◌∷◌, ◌++◌, slice_index, slice_set, length, if◌then◌else◌, Some}
 use Rattle.std.specs.Option.{option_map}
 use Rattle.std.specs.Ordering.{nat_cmp}
 use Rattle.std.specs.declared.cmp.Ordering.{Ordering}
@@ -10,18 +10,16 @@ use Rattle.sdb_base.specs.Keeping.{AddsNode, Commits, operations}
 use Rattle.sdb_base.specs.declared.Block.{Block}
 use Rattle.sdb_base.specs.declared.BlockId.{BlockId}
 use Rattle.sdb_base.specs.declared.node.Node.{Node}
-use Rattle.sdb_base.specs.declared.op.Op.{Op}
 use Rattle.sdb_model.specs.Blocks.{AreBlocks, count_at, number_of, state_of}
 use Rattle.sdb_blake2.specs.Blake2b.{H}
 use Rattle.sdb_model.specs.Clear.{Clear, IsStoredNode}
 use Rattle.sdb_model.specs.declared.Reply.{Reply}
 use Rattle.sdb_model.specs.declared.Reply.TheVariants.{Imported, Value, Key, Nothing, Listed, Root, Refused}
-use Rattle.sdb_model.specs.State.{State, apply, no_keys}
-use Rattle.trie_change.specs.Deltas.{hashed}
-use Rattle.trie_model.specs.Nodes.{PathNode, put_nodes, stored_nodes}
+use Rattle.sdb_model.specs.State.{State}
 use Rattle.trie_model.specs.Trie.{trie_root}
 use Rattle.trie_root.specs.Suffixes.{IsEntry}
-use Rattle.sdb_serve.specs.inner.Kept.{HasNodes, references_to}
+use Rattle.sdb_serve.specs.BlockCommits.{commits_of, references_to}
+use Rattle.sdb_serve.specs.inner.Kept.{HasNodes}
 use Rattle.sdb_serve.specs.declared.blocks.BlockMap.{BlockMap}
 use Rattle.sdb_serve.specs.declared.blocks.BlockEntry.{BlockEntry}
 
@@ -32,22 +30,6 @@ id_cmp a b = slice_cmp nat_cmp a.0 b.0
 -- the levels with this count at a number, which they have or which is the next
 abbrev pub with_level : List ℕ → ℕ → ℕ → List ℕ
 with_level levels n count = if nat_lt n (length levels) then slice_set levels n count else levels ++ count ∷ []
-
--- one reference to each of some nodes, under their hashes
-abbrev pub commit_of : List PathNode → List Op
-commit_of nodes = references_to (map hashed nodes)
-
--- the nodes that a block's changes put beside those of its parent's state
-abbrev pub nodes_put_on : Option State → Block → List PathNode
-nodes_put_on None b = []
-nodes_put_on (Some m) b = put_nodes m (apply m b.changes)
-
--- The commits of the blocks, oldest first: of genesis one with all nodes of its state, of each other block one with the nodes
--- that it puts.
-unfoldable pub commits_of : List Block → Commits
-commits_of [] = []
-commits_of (b ∷ []) = commit_of (stored_nodes (apply no_keys b.changes)) ∷ []
-commits_of (b ∷ (c ∷ older)) = commits_of (c ∷ older) ++ commit_of (nodes_put_on (state_of (c ∷ older) b.parent) b) ∷ []
 
 -- one commit more, of references to some nodes
 abbrev pub IsOneMore : Commits → Commits → Type 0

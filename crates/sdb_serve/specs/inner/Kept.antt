@@ -1,15 +1,12 @@
 -- The nodes of states among the commits of a keeper, and what its faults come to.
-use Rattle.std.specs.Prelude.{◌≡◌, ◌⊎◌, ℕ, Bool, false, List, map, All, Any, Contains, Some, Result, Ok, Err}
+use Rattle.std.specs.Prelude.{◌≡◌, ◌⊎◌, ℕ, Bool, false, List, All, Any, Contains, Some, Result, Ok, Err}
 use Rattle.std.specs.FinMap.{entries}
 use Rattle.sdb_base.specs.Content.{Counted, node_under}
 use Rattle.sdb_base.specs.Keeping.{AddsNode, Commits, is_disk, operations}
-use Rattle.sdb_base.specs.declared.node.Node.{Node}
 use Rattle.sdb_base.specs.declared.numbers.KeepFault.{KeepFault}
 use Rattle.sdb_base.specs.declared.numbers.KeepFault.TheVariants as keeper
 use Rattle.sdb_base.specs.declared.numbers.KeeperCall.{KeeperCall}
 use Rattle.sdb_base.specs.declared.numbers.KeeperCall.TheVariants as calls
-use Rattle.sdb_base.specs.declared.op.Op.{Op}
-use Rattle.sdb_base.specs.declared.op.Op.TheVariants.{AddRef}
 use Rattle.sdb_blake2.specs.Blake2b.{H}
 use Rattle.sdb_model.specs.State.{State}
 use Rattle.trie_model.specs.Nodes.{PathNode, stored_nodes}
@@ -85,10 +82,3 @@ pub record IsKeptState (commits : Commits) (root : List ℕ) (m : State) : Type 
   pub root_is : root ≡ trie_root m
   pub nodes : HasNodes commits m
   pub alike : (key : List ℕ) → AddsAlike commits key
-
--- one reference more to each of some nodes
-abbrev pub reference_to : Node → Op
-reference_to n = AddRef n.hash n.bytes
-
-abbrev pub references_to : List Node → List Op
-references_to nodes = map reference_to nodes

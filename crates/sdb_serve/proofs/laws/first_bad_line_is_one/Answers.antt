@@ -5,4 +5,4 @@ pub returns-clause-one : goal.returns-clause-one
 returns-clause-one c = one_first
 
 pub returns-clause-none : goal.returns-clause-none
-returns-clause-none c = λ input n script bad. no_script bad.0 input bad.1 bad.2 script
+returns-clause-none c = λ g input n script bad. no_script g bad.0 input bad.1 bad.2 script

@@ -11,7 +11,7 @@ invariant-loop g l = record {
   limits : KeepsLimits l.job;
   stands : (commits : Commits) → g.K.Keeper.stands l.fn.keeper commits → g.K.Keeper.stands l.keeper commits;
   later : (commits : Commits) → g.K.Keeper.stands l.fn.keeper commits → g.K.Keeper.later l.fn.keeper commits l.keeper commits;
-  after : g.K.Keeper.comes_after l.fn.keeper l.keeper;
+  outside : g.K.Keeper.only_reads l.fn.keeper l.keeper;
   pipeline : g.K.Keeper.pipeline l.keeper ≡ g.K.Keeper.pipeline l.fn.keeper;
   counted : g.K.Keeper.fault_count l.keeper ≡ g.K.Keeper.fault_count l.fn.keeper;
   at : (commits : Commits) (m : State) → g.K.Keeper.stands l.fn.keeper commits → ClearsAlike g.K.Keeper.clear → IsKeptState commits l.fn.root.0 m

@@ -5,7 +5,8 @@ use Rattle.std.proofs.lemmas.List.Elements.{All-from_recursion}
 use Rattle.sdb_base.specs.Keeping.{HasShortKey}
 use Rattle.sdb_base.specs.declared.op.Op.{Op}
 use Rattle.sdb_serve.specs.declared.nodes.NodeFault.{NodeFault}
-use Rattle.sdb_serve.specs.inner.Kept.{IsKeeperCause, references_to}
+use Rattle.sdb_serve.specs.BlockCommits.{references_to}
+use Rattle.sdb_serve.specs.inner.Kept.{IsKeeperCause}
 use Rattle.sdb_serve.proofs.KeeperFaults.{commit_cause}
 use Rattle.sdb_serve.proofs.KeptNodes.{short_keys}
 use Rattle.sdb_serve.proofs.nodes.keep.Goals as goal

@@ -12,7 +12,7 @@ pub loop-init : goal.loop-init
 loop-init g c = record {
   stands = λ commits h. h;
   later = λ commits h. g.met.K.Keeper.later_itself _ commits h;
-  after = g.met.K.Keeper.after_itself _;
+  outside = g.met.K.Keeper.only_itself _;
   pipeline = refl;
   counted = refl;
   at = λ commits m h clears k. record {
@@ -50,7 +50,7 @@ loop-preserved g c = record {
   stands = λ commits h. c.in_ok-bytes.ensures.stands commits (c.loop.invariant.stands commits h);
   later = λ commits h.
       g.met.K.Keeper.later_on _ _ _ commits commits commits (c.loop.invariant.later commits h) (c.in_ok-bytes.ensures.later commits (c.loop.invariant.stands commits h));
-  after = g.met.K.Keeper.after_on _ _ _ c.loop.invariant.after c.in_ok-bytes.ensures.after;
+  outside = g.met.K.Keeper.only_on _ _ _ c.loop.invariant.outside c.in_ok-bytes.ensures.outside;
   pipeline = c.in_ok-bytes.ensures.pipeline ∙ c.loop.invariant.pipeline;
   counted = c.in_ok-bytes.ensures.counted ∙ c.loop.invariant.counted;
   at = λ commits m h clears k.

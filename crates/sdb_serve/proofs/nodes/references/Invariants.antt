@@ -1,6 +1,6 @@
 use Rattle.std.proofs.Common.{◌≡◌, ◌++◌, length}
 use Rattle.std.specs.Vec.Iter.{into_iter_items, into_iter_len}
-use Rattle.sdb_serve.specs.inner.Kept.{references_to}
+use Rattle.sdb_serve.specs.BlockCommits.{references_to}
 use Rattle.sdb_serve.proofs.nodes.references.Given as goal
 
 abbrev pub invariant-loop-node : goal.invariant-loop-node

@@ -7,7 +7,7 @@ use Rattle.sdb_serve.specs.StageLines.{pipeline_after}
 use Rattle.sdb_serve.specs.inner.Blocks.{IsNextHistory, KeepsBlocks}
 use Rattle.sdb_serve.proofs.ClearLines.{before_job}
 use Rattle.sdb_serve.proofs.JobReplies.{as_model, import_kind, list_stays, may_ok, next_stays, on_ok, read_stays, root_stays}
-use Rattle.sdb_serve.proofs.session.answer_job.Goals as goal
+use Rattle.sdb_serve.proofs.jobs.answer_job.Goals as goal
 
 pub returns-in-Read-clause-may : goal.returns-in-Read-clause-may
 returns-in-Read-clause-may g c =
