@@ -33,6 +33,3 @@ pub use memory::MapCells;
 pub use put_set::PutSet;
 pub use puts::{Put, Puts};
 pub use sdb_io::OutOfMemory;
-
-#[cfg(test)]
-mod tests;

@@ -22,6 +22,3 @@ pub use chunk::{Chunk, ChunkFull, chunk_bytes, clear, put, read_chunk};
 pub use entries::{address, entry, matches};
 pub use key_bits::chunk_of;
 pub use laws::{chunks_are_read_as_written, entries_give_their_parts_back};
-
-#[cfg(test)]
-mod tests;

@@ -25,6 +25,3 @@ mod record;
 pub use disks::Disks;
 pub use laws::{known_outcomes, pending_steps_are_since_the_last_sync};
 pub use memory::MemDisk;
-
-#[cfg(test)]
-mod tests;

@@ -26,6 +26,3 @@ mod queue;
 pub use laws::{known_sayings, newest_is_of_the_last};
 pub use lent::Lent;
 pub use queue::Queue;
-
-#[cfg(test)]
-mod tests;

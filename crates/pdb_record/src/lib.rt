@@ -34,6 +34,3 @@ pub use pdb_model::GateSlot;
 pub use put_refs::{PutRef, PutRefs, put_name};
 pub use record_ref::RecordRef;
 pub use scanner::{Scan, Scanner};
-
-#[cfg(test)]
-mod tests;

@@ -1,6 +1,4 @@
 pub mod Halves
 pub mod Orders
-pub mod Applying
-pub mod Records
 pub mod TooLong
 pub mod Commits

@@ -3,7 +3,3 @@ pub mod Content
 pub mod Keeping
 pub mod TooLong
 pub mod Pipeline
-pub mod Holding
-pub mod Uncrowded
-pub mod MapKeeping
-pub mod inner

@@ -8,25 +8,20 @@
 //! is left to the layers above.
 //!
 //! `Keeper` and `Stages` say what keeps commits of such operations and carries them through its stages, whatever it
-//! is; `MapKeeper` is one in memory.
+//! is.
 #![tactic(auto)]
 
 mod block;
 mod bytes;
 mod change;
-mod column;
-mod columns;
 mod items;
 mod keeper;
 mod laws;
-mod map_keeper;
 mod nibbles;
 mod node;
 mod numbers;
 mod op;
 mod pair;
-mod plan;
-mod progress;
 mod value_limit;
 
 pub use block::{Block, BlockId, Prepared};
@@ -35,7 +30,6 @@ pub use change::{Change, Changes};
 pub use items::{Items, Sequence, TryCopy, Typed};
 pub use keeper::{Keeper, Stages};
 pub use laws::{known_contents, known_stages, operations_apply_in_order};
-pub use map_keeper::MapKeeper;
 pub use nibbles::{NibbleString, Nibbles};
 pub use node::{HashList, Node, NodeHash, NodeList};
 pub use numbers::{Counter, Grown, KeepFault, KeeperCall, Logged, Numbers, StageAnswer};
@@ -51,8 +45,3 @@ pub type Keys = Items<Bytes>;
 
 /// A call found no memory.
 pub type OutOfMemory = std::alloc::AllocError;
-
-#[cfg(test)]
-mod keeper_tests;
-#[cfg(test)]
-mod tests;

@@ -10,8 +10,6 @@
 mod block;
 mod hasher;
 mod laws;
-#[cfg(test)]
-mod tests;
 
 pub use hasher::{Blake2b, hash256};
 pub use laws::{constants_are_standard, counter_counts_bytes, known_digests};

@@ -17,6 +17,3 @@ pub use source::{Source, SourceFault};
 
 /// A call found no memory.
 pub type OutOfMemory = std::alloc::AllocError;
-
-#[cfg(test)]
-mod tests;

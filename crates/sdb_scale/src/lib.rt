@@ -16,6 +16,3 @@ pub use fault::ScaleFault;
 pub use laws::{no_spelling_begins_another, spelling_is_the_shortest};
 pub use reading::{byte_string, compact};
 pub use writing::{put_bytes, put_compact};
-
-#[cfg(test)]
-mod tests;

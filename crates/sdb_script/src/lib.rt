@@ -25,6 +25,3 @@ pub use line::{Line, LineFault, LineReply};
 pub use parse::{MOST_IN_LINE, parse_line};
 pub use stage::Stage;
 pub use text::reply_text;
-
-#[cfg(test)]
-mod tests;

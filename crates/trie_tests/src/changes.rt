@@ -4,8 +4,9 @@ ghost use Rattle.trie_change.specs.Changing.{KeepsLimits};
 ghost use Rattle.trie_model.specs.Limits.{ChangeIsWithin, ChangesAreWithin};
 
 use crate::example_nodes::{AT_1, AT_2, AT_100, AT_203, AT_1000, AT_2031, AT_A, AT_AA, ROOT};
-use sdb_base::{Bytes, Change, Changes, Keeper, MapKeeper, NodeHash, Op, Ops, OutOfMemory};
+use sdb_base::{Bytes, Change, Changes, Keeper, NodeHash, Op, Ops, OutOfMemory};
 use sdb_blake2::hash256;
+use sdb_mapkeeper::MapKeeper;
 use std::alloc::Global;
 use std::test::*;
 use trie_change::{ChangeJob, Delta};

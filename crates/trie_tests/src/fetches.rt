@@ -1,7 +1,8 @@
 use crate::changes::{NODES, adding, commit, keeper};
 use crate::example_nodes::{AT_1, AT_2, AT_100, AT_203, AT_1000, AT_2031, AT_A, AT_AA, ROOT};
-use sdb_base::{Bytes, Keeper, MapKeeper, NodeHash};
+use sdb_base::{Bytes, Keeper, NodeHash};
 use sdb_blake2::hash256;
+use sdb_mapkeeper::MapKeeper;
 use std::alloc::Global;
 use std::test::*;
 use trie_read::{NextJob, ReadJob, WalkJob};

@@ -1,5 +1,0 @@
-use Rattle.sdb_base.specs.inner.Applying.{AreSame}
-use Rattle.sdb_base.proofs.columns.Columns.tidy.Given as goal
-
-abbrev pub invariant-loop-op : goal.invariant-loop-op
-invariant-loop-op l = AreSame l.fn.self l.self

@@ -1,6 +1,0 @@
-use Rattle.std.proofs.Common.{All}
-use Rattle.sdb_base.specs.Keeping.{HasShortKey}
-use Rattle.sdb_base.proofs.keeper_tests.ops.Given as goal
-
-abbrev pub invariant-loop-step : goal.invariant-loop-step
-invariant-loop-step l = All HasShortKey l.ops

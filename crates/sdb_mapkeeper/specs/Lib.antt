@@ -1,0 +1,4 @@
+pub mod Holding
+pub mod Uncrowded
+pub mod MapKeeping
+pub mod inner
