@@ -1,4 +1,4 @@
-ghost use Rattle.std.specs.Prelude.{◌≡◌, ◌≢◌, suc, ◌+◌, ◌-◌, ◌<◌, ◌≤◌, List, [], All, IfOk, IfSome, OnOk, drop, filter, length, slice_index_or, take, true, false};
+ghost use Rattle.std.specs.Prelude.{◌≡◌, ◌≢◌, suc, ◌+◌, ◌-◌, ◌<◌, ◌≤◌, List, [], ◌++◌, ◌∷◌, All, IfOk, IfSome, OnOk, Some, None, drop, filter, length, slice_index_or, take, true, false};
 ghost use Rattle.sdb_blake2.specs.Blake2b.{H};
 ghost use Rattle.trie_model.specs.Node.{merkle_value, spelling};
 ghost use Rattle.trie_model.specs.Nodes.{PathNode};
@@ -14,7 +14,7 @@ use crate::frontier::Item;
 use crate::in_order::path_of;
 use sdb_base::{Bytes, Nibbles, NodeHash, OutOfMemory};
 use std::alloc::Global;
-use trie_codec::{ChildList, Plain, encode, encode_parts};
+use trie_codec::{ChildList, MerkleValue, Plain, encode, encode_parts};
 
 // A spelling of at least as many bytes is stored, and stands in the node above by its hash.
 const HASH_LEN: usize = 32;
@@ -104,7 +104,7 @@ fn children_of(
     diff: &mut Diff,
     items: &[Item],
     at: usize,
-) -> Result<Vec<Option<Bytes>>, OutOfMemory>
+) -> Result<Vec<Option<MerkleValue>>, OutOfMemory>
     requires at { at ≤ 2048 }
     requires limited { All IsLimited items.now }
     requires short { AreShort diff.old.puts.items }
@@ -119,66 +119,87 @@ fn children_of(
     let mut rest = items;
     for count in 0..16u8 {
         let start = run_start(rest, at, 15 - count);
-        children.push(child_of(alloc, diff, &rest[start..], at + 1)?)?;
+        push_child(alloc, diff, &rest[start..], at + 1, &mut children)?;
         rest = &rest[..start];
     }
     children.reverse();
     Ok(children)
 }
 
-// The Merkle value of the node over items that agree in their first `at` nibbles, if there are any.
+// Adds the Merkle value of the node over items that agree in their first `at` nibbles, or None where there are none.
 #[cycle(nodes)]
-fn child_of(
+fn push_child(
     alloc: Global,
     diff: &mut Diff,
     items: &[Item],
     at: usize,
-) -> Result<Option<Bytes>, OutOfMemory>
+    children: &mut Vec<Option<MerkleValue>>,
+) -> Result<(), OutOfMemory>
     requires at { 1 ≤ at }
     requires limited { All IsLimited items.now }
     requires long { All (λ i. at ≤ length (item_path i)) items.now }
     requires short { AreShort diff.old.puts.items }
     ensures still_short { OnOk result (AreShort diff.new.puts.items) }
-    ensures fits { IfOk result (λ child. IfSome child IsShortValue) }
+    ensures one { OnOk result (length children.new.items ≡ length children.old.items + 1) }
+    ensures fits { All (λ child. IfSome child IsShortValue) children.old.items → OnOk result (All (λ child. IfSome child IsShortValue) children.new.items) }
     ensures child { (g : ItemGroup at items.now) (c : Comparison) → IsComparison diff.old c
-        → IfOk result (λ child. (child ≡ child_value node_of_all (below g.path g.suffixes))
+        → OnOk result ((children.new.items ≡ children.old.items ++ child_value node_of_all (below g.path g.suffixes) ∷ [])
         × IsComparison diff.new (after_nodes c (filter (is_made g.under) (nodes_at g.suffixes g.path)))) }
 {
     if items.is_empty() {
-        return Ok(None);
+        return push_none(children);
     }
     let made = made_of(alloc, diff, items, at)?;
-    let value = merkle_value_of(alloc, diff, path_before(&items[0], at), made)?;
-    Ok(Some(value))
+    push_value(diff, path_before(&items[0], at), made, children)
 }
 
-// The Merkle value of a node below the root, which goes to the comparison if it is new and stored. What hashing needs on the
-// stack stays out of the frames of the recursion, which may be 2,049 levels deep.
+// Adds no Merkle value.
 #[inline(never)]
-fn merkle_value_of(
-    alloc: Global,
+fn push_none(children: &mut Vec<Option<MerkleValue>>) -> Result<(), OutOfMemory>
+    ensures { OnOk result (children.new.items ≡ children.old.items ++ None ∷ []) }
+{
+    children.push(None)?;
+    Ok(())
+}
+
+// Adds a hash as a Merkle value.
+#[inline(never)]
+fn push_hash(children: &mut Vec<Option<MerkleValue>>, hash: &NodeHash) -> Result<(), OutOfMemory>
+    ensures { OnOk result (children.new.items ≡ children.old.items ++ Some hash.now.0 ∷ []) }
+{
+    children.push(Some(MerkleValue::of(&hash.0)))?;
+    Ok(())
+}
+
+// Adds the Merkle value of a node below the root, which goes to the comparison if it is new and stored. What hashing and
+// values need on the stack stays out of the frames of the recursion, which may be 2,049 levels deep.
+#[inline(never)]
+fn push_value(
     diff: &mut Diff,
     path: &[u8],
     made: Made,
-) -> Result<Bytes, OutOfMemory>
+    children: &mut Vec<Option<MerkleValue>>,
+) -> Result<(), OutOfMemory>
     requires fits { FitsNode made }
     requires short { AreShort diff.old.puts.items }
     ensures still_short { OnOk result (AreShort diff.new.puts.items) }
-    ensures fits { IfOk result IsShortValue }
+    ensures one { OnOk result (length children.new.items ≡ length children.old.items + 1) }
+    ensures fits { All (λ child. IfSome child IsShortValue) children.old.items → OnOk result (All (λ child. IfSome child IsShortValue) children.new.items) }
     ensures value { (n : PathNode) (all : List PathNode) (c : Comparison) → n.path ≡ path.now → (n.path ≢ [])
         → IsMade c n all diff.old made
-        → IfOk result (λ value. (value ≡ merkle_value n.bytes) × IsComparison diff.new (after_nodes c all)) }
+        → OnOk result ((children.new.items ≡ children.old.items ++ Some (merkle_value n.bytes) ∷ []) × IsComparison diff.new (after_nodes c all)) }
 {
-    let hash = match made {
-        Made::Kept(hash) => hash,
+    match made {
+        Made::Kept(hash) => push_hash(children, &hash),
         Made::New(bytes) => {
             if bytes.len() < HASH_LEN {
-                return Ok(bytes);
+                children.push(Some(MerkleValue::of(bytes.as_slice())))?;
+                return Ok(());
             }
-            diff.emit(path, bytes)?
+            let hash = diff.emit(path, bytes)?;
+            push_hash(children, &hash)
         }
-    };
-    Bytes::from_slice(alloc, &hash.0)
+    }
 }
 
 // The hash of a stub whose path has `at` nibbles.
@@ -276,7 +297,7 @@ fn spell_node(
     first: &Item,
     at: usize,
     end: usize,
-    children: &[Option<Bytes>],
+    children: &[Option<MerkleValue>],
 ) -> Result<Bytes, OutOfMemory>
     requires limited { IsLimited first.now }
     requires rises { at ≤ end }

@@ -9,6 +9,7 @@
 
 mod fault;
 mod laws;
+mod merkle_value;
 mod node_ref;
 mod plain;
 mod reading;
@@ -19,6 +20,7 @@ pub use laws::{
     faults_stay, known_readings, more_levels_read_nothing_more, what_is_read_was_written,
     what_is_written_is_read,
 };
+pub use merkle_value::MerkleValue;
 pub use node_ref::{ChildRef, Kind, NodeRef};
 pub use plain::{ChildList, Plain};
 pub use writing::{encode, encode_leaf, encode_parts};

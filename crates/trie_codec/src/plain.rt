@@ -1,5 +1,6 @@
 ghost use Rattle.std.specs.Prelude.{◌≡◌, ◌<◌, None, replicate, slice_set};
 
+use crate::merkle_value::MerkleValue;
 use sdb_base::{Bytes, Nibbles};
 use std::marker::Model;
 
@@ -17,7 +18,7 @@ pub struct Plain {
 /// The Merkle values of a node's sixteen children, each there or not.
 #[derive(Debug, Drop)]
 pub struct ChildList {
-    items: [Option<Bytes>; 16],
+    items: [Option<MerkleValue>; 16],
 }
 
 impl Model for ChildList {
@@ -42,7 +43,7 @@ impl ChildList {
     }
 
     /// Sets child `i`, or takes it away.
-    pub fn set(&mut self, i: u8, child: Option<Bytes>)
+    pub fn set(&mut self, i: u8, child: Option<MerkleValue>)
         requires { i < 16 }
         ensures { self.new ≡ slice_set self.old i child }
     {
@@ -50,7 +51,7 @@ impl ChildList {
     }
 
     /// The children in their order.
-    pub fn as_slice(&self) -> &[Option<Bytes>]
+    pub fn as_slice(&self) -> &[Option<MerkleValue>]
         ensures { result.now ≡ self.now }
     {
         &self.items

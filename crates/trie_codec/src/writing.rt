@@ -8,6 +8,7 @@ ghost use Rattle.sdb_base.specs.Nibbles.{nibbles_of};
 ghost use Rattle.trie_codec.specs.Parts.{leaf_with, node_of, node_with};
 ghost use Rattle.trie_codec.specs.Slices.{bytes_in};
 
+use crate::merkle_value::MerkleValue;
 use crate::plain::Plain;
 use sdb_base::{Bytes, OutOfMemory};
 use sdb_scale::{ScaleFault, put_bytes};
@@ -37,7 +38,7 @@ pub fn encode_parts(
     alloc: Global,
     partial: &[u8],
     value: Option<&[u8]>,
-    children: &[Option<Bytes>],
+    children: &[Option<MerkleValue>],
 ) -> Result<Bytes, OutOfMemory>
     requires { IsSpellable (node_with partial.now (bytes_in value) children.now) }
     ensures { IfOk result (λ bytes. bytes
@@ -105,7 +106,7 @@ fn room_of(partial: &[u8], value: Option<&[u8]>, is_branch: bool) -> usize
 }
 
 // Whether there is a child.
-fn is_branch(children: &[Option<Bytes>]) -> bool
+fn is_branch(children: &[Option<MerkleValue>]) -> bool
     ensures { result ≡ has_child children.now }
 {
     children.iter().any(|child| child.is_some())
@@ -128,7 +129,7 @@ fn put_branch(
     out: &mut Vec<u8>,
     partial: &[u8],
     value: Option<&[u8]>,
-    children: &[Option<Bytes>],
+    children: &[Option<MerkleValue>],
 ) -> Result<(), AllocError>
     requires partial { IsPartial partial.now }
     requires value { IfSome (bytes_in value) HasCompactLength }
@@ -191,7 +192,7 @@ fn put_pairs(out: &mut Vec<u8>, nibbles: &[u8]) -> Result<(), AllocError>
 }
 
 // Bit i is set where there is a child i.
-fn bitmap_of(children: &[Option<Bytes>]) -> u16
+fn bitmap_of(children: &[Option<MerkleValue>]) -> u16
     requires { length children.now ≤ 16 }
     ensures { result ≡ bitmap children.now }
 {
@@ -203,7 +204,7 @@ fn bitmap_of(children: &[Option<Bytes>]) -> u16
 }
 
 // Appends the Merkle values of the children that there are.
-fn put_children(out: &mut Vec<u8>, children: &[Option<Bytes>]) -> Result<(), AllocError>
+fn put_children(out: &mut Vec<u8>, children: &[Option<MerkleValue>]) -> Result<(), AllocError>
     requires { All (λ c. IfSome c HasCompactLength) children.now }
     ensures { OnOk result (out.new.items ≡ out.old.items ++ flat_map optional_string children.now) }
 {
@@ -214,7 +215,7 @@ fn put_children(out: &mut Vec<u8>, children: &[Option<Bytes>]) -> Result<(), All
 }
 
 // Appends a child's Merkle value as a byte string, if there is one.
-fn put_child(out: &mut Vec<u8>, child: &Option<Bytes>) -> Result<(), AllocError>
+fn put_child(out: &mut Vec<u8>, child: &Option<MerkleValue>) -> Result<(), AllocError>
     requires { IfSome child.now HasCompactLength }
     ensures { OnOk result (out.new.items ≡ out.old.items ++ optional_string child.now) }
 {

@@ -10,7 +10,7 @@ ghost use Rattle.trie_root.specs.inner.Groups.{GoesOn, HasNext, IsOtherNext, IsG
 use sdb_base::{Bytes, Nibbles, NodeHash, OutOfMemory, Pair, Pairs};
 use sdb_blake2::hash256;
 use std::alloc::Global;
-use trie_codec::{ChildList, Plain, encode, encode_leaf, encode_parts};
+use trie_codec::{ChildList, MerkleValue, Plain, encode, encode_leaf, encode_parts};
 
 // A spelling of at least as many bytes is replaced by its hash.
 const HASH_LEN: usize = 32;
@@ -70,7 +70,11 @@ fn spell_leaf(alloc: Global, pair: &Pair, at: usize) -> Result<Bytes, OutOfMemor
 
 // The Merkle values of the children of the node whose partial key ends at `at` nibbles, one for each next nibble.
 #[cycle(nodes)]
-fn children_of(alloc: Global, pairs: &[Pair], at: usize) -> Result<Vec<Option<Bytes>>, OutOfMemory>
+fn children_of(
+    alloc: Global,
+    pairs: &[Pair],
+    at: usize,
+) -> Result<Vec<Option<MerkleValue>>, OutOfMemory>
     requires at { at ≤ 2048 }
     requires pairs { GoesOn at pairs.now }
     ensures { IfOk result (λ children. children.items ≡ children_over (suffixes_from at pairs.now)) }
@@ -87,7 +91,7 @@ fn children_of(alloc: Global, pairs: &[Pair], at: usize) -> Result<Vec<Option<By
 
 // The Merkle value of the node over pairs that agree in one nibble more, if there are any.
 #[cycle(nodes)]
-fn child_of(alloc: Global, pairs: &[Pair], at: usize) -> Result<Option<Bytes>, OutOfMemory>
+fn child_of(alloc: Global, pairs: &[Pair], at: usize) -> Result<Option<MerkleValue>, OutOfMemory>
     requires at { at ≤ 2048 }
     requires group { IsGroup (at + 1) pairs.now }
     ensures { IfOk result (λ child. child
@@ -97,7 +101,7 @@ fn child_of(alloc: Global, pairs: &[Pair], at: usize) -> Result<Option<Bytes>, O
         return Ok(None);
     }
     let spelled = spell_group(alloc, pairs, at + 1)?;
-    Ok(Some(merkle_value(alloc, spelled)?))
+    Ok(Some(merkle_value(spelled.as_slice())))
 }
 
 // How many nibbles after `at` all keys share: those that the first and the last share.
@@ -117,7 +121,7 @@ fn spell_node(
     first: &Pair,
     at: usize,
     end: usize,
-    children: &[Option<Bytes>],
+    children: &[Option<MerkleValue>],
 ) -> Result<Bytes, OutOfMemory>
     requires within { AreWithin first.now.key first.now.value }
     requires rises { at ≤ end }
@@ -227,12 +231,12 @@ fn nibble_at(key: &[u8], i: usize) -> u8
 
 // A spelling's Merkle value.
 #[tactic(auto, unfolding(trie_model::specs::Node::merkle_value))]
-fn merkle_value(alloc: Global, spelled: Bytes) -> Result<Bytes, OutOfMemory>
-    ensures { IfOk result (λ value. value ≡ merkle_value spelled) }
+fn merkle_value(spelled: &[u8]) -> MerkleValue
+    ensures { result ≡ merkle_value spelled.now }
 {
     if spelled.len() < HASH_LEN {
-        Ok(spelled)
+        MerkleValue::of(spelled)
     } else {
-        Bytes::from_slice(alloc, &hash256(spelled.as_slice()))
+        MerkleValue::of(&hash256(spelled))
     }
 }

@@ -5,9 +5,9 @@ use sdb_base::{Bytes, Nibbles, OutOfMemory};
 use std::alloc::Global;
 use std::test::*;
 use trie_codec::{
-    ChildList, ChildRef, CodecFault, Kind, NodeRef, Plain, encode, encode_leaf, encode_parts,
-    faults_stay, known_readings, more_levels_read_nothing_more, what_is_read_was_written,
-    what_is_written_is_read,
+    ChildList, ChildRef, CodecFault, Kind, MerkleValue, NodeRef, Plain, encode, encode_leaf,
+    encode_parts, faults_stay, known_readings, more_levels_read_nothing_more,
+    what_is_read_was_written, what_is_written_is_read,
 };
 
 // Bytes that are no node, and their first fault. Where two faults could be named, the second comes after it.
@@ -191,18 +191,18 @@ fn is_partial(nibbles: &[u8]) -> bool
 }
 
 // The children at these nibbles; none where one can't be there.
-fn child_list(alloc: Global, children: &[(u8, &[u8])]) -> Result<Option<ChildList>, OutOfMemory>
-    ensures sixteen { IfOk result (λ found. IfSome found (λ c. length c ≡ 16)) }
-    ensures short { IfOk result (λ found. IfSome found (λ c. All (λ child. IfSome child HasCompactLength) c)) }
+fn child_list(children: &[(u8, &[u8])]) -> Option<ChildList>
+    ensures sixteen { IfSome result (λ c. length c ≡ 16) }
+    ensures short { IfSome result (λ c. All (λ child. IfSome child HasCompactLength) c) }
 {
     let mut found = ChildList::new();
     for (nibble, merkle_value) in children {
         if *nibble >= 16 || merkle_value.len() > 32 {
-            return Ok(None);
+            return None;
         }
-        found.set(*nibble, Some(Bytes::from_slice(alloc, merkle_value)?));
+        found.set(*nibble, Some(MerkleValue::of(*merkle_value)));
     }
-    Ok(Some(found))
+    Some(found)
 }
 
 // The spelling of these parts; none where they can't be spelled.
@@ -215,7 +215,7 @@ fn spelled(
     if !is_partial(partial) {
         return Ok(None);
     }
-    let Some(children) = child_list(alloc, children)? else {
+    let Some(children) = child_list(children) else {
         return Ok(None);
     };
     let value = match value {

@@ -1,7 +1,8 @@
-use Rattle.std.proofs.Common.{rules, ◌≡◌, ℕ, false, ◌+◌, ◌-◌, ◌≤◌, List, [], ◌∷◌, length, get_or, drop, All, Some, None, refl, sym, ap, subst, ◌∙◌, arith, length-append, length-take}
+use Rattle.std.proofs.Common.{rules, ◌≡◌, ℕ, false, ◌+◌, ◌-◌, ◌≤◌, List, [], ◌∷◌, ◌++◌, Option, length, get_or, drop, All, Some, None, refl, sym, ap, subst, ◌∙◌, arith, length-append, length-take}
 use Rattle.std.specs.Prelude.{◌==◌, IfSome, filter}
 use Rattle.std.specs.List.{flat_map}
 use Rattle.std.proofs.lemmas.List.{take_rest}
+use Rattle.std.proofs.lemmas.Result.{on_ok_weaker}
 use Rattle.std.proofs.lemmas.List.Elements.{All-push, All-same, All-take}
 use Rattle.sdb_base.specs.declared.node.NodeHash.{NodeHash}
 use Rattle.trie_model.specs.Nodes.{PathNode}
@@ -23,19 +24,21 @@ some_items : (items : List Item) → false ≡ (length items == 0) → 1 ≤ len
 some_items [] e = absurd cc
 some_items (i ∷ is) e = omega arith
 
-pub child_of-returns-clause-child : goal.child_of-returns-clause-child
-child_of-returns-clause-child t c = λ g k is.
+pub push_child-returns-clause-child : goal.push_child-returns-clause-child
+push_child-returns-clause-child t c = λ g k is.
     let at = c.args.at in
     let items = c.args.items.now in
     let some : 1 ≤ length items = some_items items c.if-is_empty.ensures in
     let n = node_of_group g in
     let there : below g.path g.suffixes ≡ [] → ⊥ = group_some at items g c.requires.at some in
     let path : n.path ≡ c.path_before.result.now = path_taken at items g c.index-items-0.result some c.index-items-0.is ∙ sym c.path_before.ensures in
-    let out = c.in_ok-value.ensures.value n (made_of_group g) k path (longer_path at items g c.requires.at) (c.in_ok-made.ensures.made g k is) in (
-      ap Some out.0 ∙ sym (value_there (below g.path g.suffixes) there),
-      subst (λ (ns : List PathNode). IsComparison c.merkle_value_of.new.diff (after_nodes k (filter (is_made g.under) ns)))
+    on_ok_weaker c.push_value.result
+    (λ out. (
+      out.0 ∙ ap (λ (o : Option (List ℕ)). c.args.children.now.items ++ o ∷ []) (sym (value_there (below g.path g.suffixes) there)),
+      subst (λ (ns : List PathNode). IsComparison c.push_value.new.diff (after_nodes k (filter (is_made g.under) ns)))
           (sym (any_there (nodes_from g.path) (below g.path g.suffixes) there)) out.1,
-    )
+    ))
+    (c.push_value.ensures.value n (made_of_group g) k path (longer_path at items g c.requires.at) (c.in_ok-made.ensures.made g k is))
 
 pub children_of-loop-count-init : goal.children_of-loop-count-init
 children_of-loop-count-init t c = record {
@@ -54,22 +57,21 @@ children_of-loop-count-preserved t c =
     let rest = c.loop-count.rest.now in
     let run = c.run_start-start.ensures in
     record {
-      short = c.in_ok-child_of.ensures.still_short;
-      so_many = ap length c.in_ok-push.ensures.items ∙ omega (arith, length-append c.loop-count.children.items (c.in_ok-child_of.field-0 ∷ []), c.loop-count.invariant.so_many);
-      fits =
-          All-same (λ o. IfSome o IsShortValue) _ _ c.in_ok-push.ensures.items
-          (All-push (λ o. IfSome o IsShortValue) c.loop-count.children.items c.in_ok-child_of.field-0 c.loop-count.invariant.fits c.in_ok-child_of.ensures.fits);
+      short = c.in_ok-push_child.ensures.still_short;
+      so_many = omega (arith, c.in_ok-push_child.ensures.one, c.loop-count.invariant.so_many);
+      fits = c.in_ok-push_child.ensures.fits c.loop-count.invariant.fits;
       limited = All-take IsLimited start rest c.loop-count.invariant.limited;
       fewer = simp length-take (omega (arith, c.loop-count.invariant.fewer));
       coming = λ b k is.
           let so_far = c.loop-count.invariant.coming b k is in
           let group = run_group b k c.loop-count.count rest c.loop-count.children.items c.loop-count.diff so_far c.loop-count-test.true start run.fits run.run run.other (c.args.at + 1) refl in
           let each = subst (λ (is : List Item). (g : ItemGroup (c.args.at + 1) is) (k : Comparison) → IsComparison c.loop-count.diff k
-          → (c.in_ok-child_of.field-0 ≡ child_value node_of_all (below g.path g.suffixes)) × IsComparison c.child_of.new.diff (after_nodes k (filter (is_made g.under) (nodes_at g.suffixes g.path))))
-          (take_rest rest start) c.in_ok-child_of.ensures.child in
+          → (c.push_child.new.children.items ≡ c.loop-count.children.items ++ child_value node_of_all (below g.path g.suffixes) ∷ [])
+          × IsComparison c.push_child.new.diff (after_nodes k (filter (is_made g.under) (nodes_at g.suffixes g.path))))
+          (take_rest rest start) c.in_ok-push_child.ensures.child in
           let child = each group (after_nodes k (filter (is_made b.group.under) (flat_map (nodes_at_nibble b) (from (16 - c.loop-count.count) c.loop-count.count)))) so_far.come in
           one_comes b k c.loop-count.count rest c.loop-count.children.items c.loop-count.diff so_far c.loop-count-test.true start run.fits run.run run.other
-          c.in_ok-child_of.field-0 c.push.new.self.items c.child_of.new.diff c.in_ok-push.ensures.items child.0 child.1;
+          (child_value node_of_all (below group.path group.suffixes)) c.push_child.new.children.items c.push_child.new.diff child.0 refl child.1;
     }
 
 pub children_of-returns-clause-children : goal.children_of-returns-clause-children

@@ -6,8 +6,8 @@ use Rattle.trie_change.specs.inner.Diffs.{AreShort, Comparison, IsComparison}
 use Rattle.trie_change.proofs.ChildRuns.{Coming}
 use Rattle.trie_change.proofs.build.+nodes.Given as goal
 
-abbrev pub decreases-child_of : goal.decreases-child_of
-decreases-child_of l = 3 * (2049 - l.at) + 3
+abbrev pub decreases-push_child : goal.decreases-push_child
+decreases-push_child l = 3 * (2049 - l.at) + 3
 
 abbrev pub decreases-children_of : goal.decreases-children_of
 decreases-children_of l = 3 * (2049 - l.at) + 1
