@@ -18,8 +18,8 @@ use Rattle.trie_model.specs.Trie.{Suffix, below, node_of_all, suffixes_of, with_
 use Rattle.trie_root.proofs.ReadOffStates.{suffixes_sorted}
 use Rattle.trie_change.specs.ChangedKeys.{keys_in_changes}
 use Rattle.trie_change.specs.Frontier.{IsFrontier, IsItem, IsStub, is_at_stub}
-use Rattle.trie_change.specs.declared.frontier.Item.{Item}
-use Rattle.trie_change.specs.declared.frontier.Item.TheVariants as item
+use Rattle.trie_change.specs.Item.{Item}
+use Rattle.trie_change.specs.Item as item
 use Rattle.trie_change.specs.declared.frontier.Stub.{Stub}
 use Rattle.trie_change.specs.declared.settings.Setting.{Setting}
 use Rattle.trie_change.specs.inner.InOrder.{IsOff, begins_one, set_pairs, stubs_of}

@@ -1,7 +1,7 @@
 -- One setting after the other is merged into the items.
 use Rattle.std.proofs.Common.{◌≡◌, ℕ, List, [], ◌∷◌, ◌++◌, length, reverse, refl, ap, subst, sym, ◌∙◌, arith, append_assoc}
 use Rattle.std.proofs.lemmas.List.{reverse-append}
-use Rattle.trie_change.specs.declared.frontier.Item.{Item}
+use Rattle.trie_change.specs.Item.{Item}
 use Rattle.trie_change.specs.declared.settings.Setting.{Setting}
 use Rattle.trie_change.specs.inner.Merged.{IsBelowKey, IsMerged, IsMovedDown, comes_in, no_more_set, nothing_left, set_item}
 

@@ -10,8 +10,8 @@ use Rattle.trie_root.proofs.Rows.{unlike}
 use Rattle.trie_read.proofs.OneFed.{all_split}
 use Rattle.trie_read.proofs.Ways.{follows}
 use Rattle.trie_change.specs.Frontier.{IsHanging, IsItem, is_at_stub, is_under, suffixes_for, item_path}
-use Rattle.trie_change.specs.declared.frontier.Item.{Item}
-use Rattle.trie_change.specs.declared.frontier.Item.TheVariants as item
+use Rattle.trie_change.specs.Item.{Item}
+use Rattle.trie_change.specs.Item as item
 use Rattle.trie_change.specs.inner.Built.{GoesOnFrom, IsPastPath, ItemBranch, ItemGroup, ItemsRise, rank_after, rank_of}
 use Rattle.trie_change.proofs.ItemPaths.{drop_itself, goes_from, rise_joined}
 use Rattle.trie_change.proofs.ItemSuffixes.{AllGoOn, AllOff, AllOn, after_itself, path_on, run_whole}

@@ -12,7 +12,7 @@ use Rattle.trie_read.proofs.OneFed.{all_split}
 use Rattle.trie_read.proofs.Rising.{all_weaker}
 use Rattle.trie_change.specs.Frontier.{IsLimited}
 use Rattle.trie_change.specs.declared.diff.Diff.{Diff}
-use Rattle.trie_change.specs.declared.frontier.Item.{Item}
+use Rattle.trie_change.specs.Item.{Item}
 use Rattle.trie_change.specs.inner.Built.{GoesOnFrom, ItemBranch, ItemGroup, ItemsRise, is_made, nodes_at, nodes_below, rank_after, values_below}
 use Rattle.trie_change.specs.inner.Diffs.{Comparison, IsComparison, after_node, after_nodes}
 use Rattle.trie_change.proofs.ChildGroups.{Run, group_of_run}

@@ -6,8 +6,8 @@ use Rattle.trie_model.specs.Nodes.{PathNode, if_any}
 use Rattle.trie_model.specs.Trie.{Suffix, below, child_value, node_of_all, with_prefix}
 use Rattle.trie_read.proofs.Binding.{none_or_some}
 use Rattle.trie_change.specs.Frontier.{IsItem, suffixes_for, item_path}
-use Rattle.trie_change.specs.declared.frontier.Item.{Item}
-use Rattle.trie_change.specs.declared.frontier.Item.TheVariants as item
+use Rattle.trie_change.specs.Item.{Item}
+use Rattle.trie_change.specs.Item as item
 use Rattle.trie_change.specs.inner.Built.{ItemGroup}
 use Rattle.trie_change.proofs.ItemSuffixes.{below_with}
 use Rattle.trie_change.proofs.MadeGroups.{taken}

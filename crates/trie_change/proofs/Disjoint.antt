@@ -7,8 +7,8 @@ use Rattle.trie_root.proofs.Prefixes.{below-append}
 use Rattle.trie_root.proofs.Rows.{joined}
 use Rattle.trie_read.proofs.Ways.{follows, on_its_way, put_back}
 use Rattle.trie_change.specs.Frontier.{is_at_stub, suffixes_for}
-use Rattle.trie_change.specs.declared.frontier.Item.{Item}
-use Rattle.trie_change.specs.declared.frontier.Item.TheVariants as item
+use Rattle.trie_change.specs.Item.{Item}
+use Rattle.trie_change.specs.Item as item
 use Rattle.trie_change.proofs.CarriedStep.{no_items}
 
 -- ---- nibbles that begin others

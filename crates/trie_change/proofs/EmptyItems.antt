@@ -8,7 +8,7 @@ use Rattle.trie_model.specs.Trie.{Suffix, below, node_of_all, with_prefix}
 use Rattle.trie_root.proofs.Rows.{unlike}
 use Rattle.trie_change.specs.declared.build.Made.TheVariants as made
 use Rattle.trie_change.specs.declared.diff.Diff.{Diff}
-use Rattle.trie_change.specs.declared.frontier.Item.{Item}
+use Rattle.trie_change.specs.Item.{Item}
 use Rattle.trie_change.specs.inner.Built.{IsMade, ItemGroup, is_made, made_of_group, node_of_group, nodes_from}
 use Rattle.trie_change.specs.inner.Diffs.{Comparison, IsComparison}
 
@@ -19,7 +19,7 @@ path_of_root items g = none g.path g.place
     none [] e = refl
     none (x ∷ p) e = absurd (omega arith)
 
-nothing_with : (p : List ℕ) (us : List Suffix) → [] ≡ with_prefix p us → us ≡ []
+pub nothing_with : (p : List ℕ) (us : List Suffix) → [] ≡ with_prefix p us → us ≡ []
 nothing_with p [] e = refl
 nothing_with p (u ∷ us) e = absurd cc
 

@@ -13,8 +13,8 @@ use Rattle.trie_read.proofs.Among.{Among, among_left, among_right}
 use Rattle.trie_read.proofs.Hanging.{below-nil}
 use Rattle.trie_read.proofs.Ways.{put_back}
 use Rattle.trie_change.specs.Frontier.{IsItem, suffixes_for, item_path}
-use Rattle.trie_change.specs.declared.frontier.Item.{Item}
-use Rattle.trie_change.specs.declared.frontier.Item.TheVariants as item
+use Rattle.trie_change.specs.Item.{Item}
+use Rattle.trie_change.specs.Item as item
 use Rattle.trie_change.specs.inner.Built.{IsHere, IsPastPath, ItemBefore, ItemsRise, PathBefore}
 use Rattle.trie_change.proofs.ItemPaths.{is_key}
 use Rattle.trie_change.proofs.LowerNodes.{IsLower, lower_differs}

@@ -6,7 +6,7 @@ use Rattle.sdb_base.specs.declared.Change.{Change}
 use Rattle.trie_model.specs.Nodes.{PathNode}
 use Rattle.trie_model.specs.State.{State}
 use Rattle.trie_change.specs.declared.frontier.Fed.{Fed}
-use Rattle.trie_change.specs.declared.frontier.Item.{Item}
+use Rattle.trie_change.specs.Item.{Item}
 use Rattle.trie_change.specs.declared.frontier.Stub.{Stub}
 use Rattle.trie_change.specs.declared.settings.Setting.{Setting}
 use Rattle.trie_change.specs.inner.InOrder.{IsOff, in_place}

@@ -22,8 +22,8 @@ use Rattle.trie_read.proofs.Hanging.{Above, fits_below}
 use Rattle.trie_read.proofs.OneNode.{one_node}
 use Rattle.trie_read.proofs.Ways.{follows}
 use Rattle.trie_change.specs.Frontier.{IsItem, is_at_stub, is_under, suffixes_for, item_path}
-use Rattle.trie_change.specs.declared.frontier.Item.{Item}
-use Rattle.trie_change.specs.declared.frontier.Item.TheVariants as item
+use Rattle.trie_change.specs.Item.{Item}
+use Rattle.trie_change.specs.Item as item
 use Rattle.trie_change.specs.inner.Built.{IsPastPath, ItemGroup, is_made, made_of_group, node_of_group, nodes_at, nodes_below, nodes_from, value_after, values_below}
 use Rattle.trie_change.proofs.ItemPaths.{drop_itself}
 use Rattle.trie_change.proofs.ItemSuffixes.{without_with}

@@ -9,8 +9,8 @@ use Rattle.trie_read.specs.Paths.{Hangs}
 use Rattle.trie_read.proofs.OneFed.{all_split}
 use Rattle.trie_read.proofs.Sound.{Sound}
 use Rattle.trie_change.specs.Frontier.{IsFrontier, IsItem, is_at_stub, suffixes_for}
-use Rattle.trie_change.specs.declared.frontier.Item.{Item}
-use Rattle.trie_change.specs.declared.frontier.Item.TheVariants as item
+use Rattle.trie_change.specs.Item.{Item}
+use Rattle.trie_change.specs.Item as item
 use Rattle.trie_change.specs.declared.frontier.Stub.{Stub}
 use Rattle.trie_change.specs.inner.InOrder.{item_goes_on, hangs_between}
 use Rattle.trie_change.proofs.Disjoint.{none_around, not_above}

@@ -13,8 +13,8 @@ use Rattle.trie_read.proofs.Among.{Among, among_kept}
 use Rattle.trie_read.proofs.Hanging.{Hung, hung_from}
 use Rattle.trie_read.proofs.Stored.{among_hung, is_hung}
 use Rattle.trie_change.specs.Frontier.{IsHanging, path_node_at}
-use Rattle.trie_change.specs.declared.frontier.Item.{Item}
-use Rattle.trie_change.specs.declared.frontier.Item.TheVariants as item
+use Rattle.trie_change.specs.Item.{Item}
+use Rattle.trie_change.specs.Item as item
 use Rattle.trie_change.specs.declared.frontier.Stub.{Stub}
 use Rattle.trie_change.specs.inner.Stages.{all_under, stored_under}
 use Rattle.trie_change.proofs.Found.{has_its_path, path_found}

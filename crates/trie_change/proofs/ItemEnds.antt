@@ -9,8 +9,8 @@ use Rattle.trie_root.proofs.Prefixes.{below-append}
 use Rattle.trie_root.proofs.ReadOffOrder.{is_sorted-nibble}
 use Rattle.trie_read.proofs.Hanging.{below-nil}
 use Rattle.trie_change.specs.Frontier.{IsItem, suffixes_for, item_path}
-use Rattle.trie_change.specs.declared.frontier.Item.{Item}
-use Rattle.trie_change.specs.declared.frontier.Item.TheVariants as item
+use Rattle.trie_change.specs.Item.{Item}
+use Rattle.trie_change.specs.Item as item
 use Rattle.trie_change.specs.inner.Built.{IsPastPath}
 use Rattle.trie_change.proofs.FedNodes.{ended}
 use Rattle.trie_change.proofs.ItemPaths.{is_key}

@@ -6,8 +6,8 @@ use Rattle.trie_root.proofs.Ends.{AtMost}
 use Rattle.trie_root.proofs.Prefixes.{Begins, begins_further}
 use Rattle.trie_root.proofs.Rows.{unlike}
 use Rattle.trie_read.proofs.Ways.{put_back}
-use Rattle.trie_change.specs.declared.frontier.Item.{Item}
-use Rattle.trie_change.specs.declared.frontier.Item.TheVariants as item
+use Rattle.trie_change.specs.Item.{Item}
+use Rattle.trie_change.specs.Item as item
 use Rattle.trie_change.specs.inner.Built.{ItemBefore, ItemsRise, PathBefore, rank_of}
 use Rattle.trie_change.specs.Frontier.{item_path}
 

@@ -5,8 +5,8 @@ use Rattle.std.specs.List.{AllByRecursion}
 use Rattle.std.proofs.lemmas.List.Elements.{All-drop, recursion_from_All}
 use Rattle.trie_read.proofs.OneFed.{all_split}
 use Rattle.trie_change.specs.Frontier.{IsLimited, item_path}
-use Rattle.trie_change.specs.declared.frontier.Item.{Item}
-use Rattle.trie_change.specs.declared.frontier.Item.TheVariants as item
+use Rattle.trie_change.specs.Item.{Item}
+use Rattle.trie_change.specs.Item as item
 use Rattle.trie_change.specs.inner.Built.{GoesOnFrom, ItemBefore, ItemsRise, rank_after, rank_of}
 use Rattle.trie_change.proofs.FedNodes.{ended}
 use Rattle.trie_change.proofs.ItemPaths.{before_after, by_paths, is_key, rank_before}

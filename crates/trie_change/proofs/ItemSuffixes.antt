@@ -9,8 +9,8 @@ use Rattle.trie_root.proofs.Prefixes.{below-append, begins_further, without}
 use Rattle.trie_root.proofs.Rows.{joined}
 use Rattle.trie_root.proofs.Stripped.{AllBegin}
 use Rattle.trie_change.specs.Frontier.{suffixes_for, item_path}
-use Rattle.trie_change.specs.declared.frontier.Item.{Item}
-use Rattle.trie_change.specs.declared.frontier.Item.TheVariants as item
+use Rattle.trie_change.specs.Item.{Item}
+use Rattle.trie_change.specs.Item as item
 use Rattle.trie_change.specs.inner.Built.{GoesOnFrom, IsPastPath, rank_after, rank_of}
 use Rattle.trie_change.proofs.ItemPaths.{drop_itself}
 

@@ -5,8 +5,8 @@ use Rattle.std.specs.List.{AllByRecursion, flat_map, list_any, starts_with}
 use Rattle.trie_model.specs.Nodes.{PathNode}
 use Rattle.trie_model.specs.Trie.{Suffix}
 use Rattle.trie_change.specs.Frontier.{IsItem, is_at_stub, suffixes_for}
-use Rattle.trie_change.specs.declared.frontier.Item.{Item}
-use Rattle.trie_change.specs.declared.frontier.Item.TheVariants as item
+use Rattle.trie_change.specs.Item.{Item}
+use Rattle.trie_change.specs.Item as item
 use Rattle.trie_change.specs.inner.InOrder.{IsBelowRoot}
 use Rattle.trie_change.specs.inner.Known.{all_known, known_of}
 use Rattle.trie_change.specs.inner.Stages.{all_under, stored_under}

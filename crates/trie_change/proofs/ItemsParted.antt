@@ -13,8 +13,8 @@ use Rattle.trie_root.proofs.Prefixes.{Begins, begins_both, begins_itself, withou
 use Rattle.trie_root.proofs.ShapesBytes.{all_joined}
 use Rattle.trie_read.proofs.OneFed.{all_split}
 use Rattle.trie_change.specs.Frontier.{IsItem, suffixes_for, item_path}
-use Rattle.trie_change.specs.declared.frontier.Item.{Item}
-use Rattle.trie_change.specs.declared.frontier.Item.TheVariants as item
+use Rattle.trie_change.specs.Item.{Item}
+use Rattle.trie_change.specs.Item as item
 use Rattle.trie_change.specs.inner.Built.{GoesOnFrom, IsHere, IsPastPath, ItemBefore, ItemGroup, ItemsRise, PathBefore}
 use Rattle.trie_change.proofs.ItemPaths.{before_after, by_paths, common_before, drop_itself, goes_further, is_key, second_goes_on, shared_before, stub_goes_on}
 use Rattle.trie_change.proofs.ItemSuffixes.{AllGoOn, without_with}

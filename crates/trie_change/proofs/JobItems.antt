@@ -21,8 +21,8 @@ use Rattle.trie_read.proofs.Stored.{is_hung}
 use Rattle.trie_change.specs.ChangedKeys.{keys_in_changes}
 use Rattle.trie_change.specs.Frontier.{IsFrontier, IsHanging, IsItem, is_at_stub, is_under, path_node_at}
 use Rattle.trie_change.specs.declared.frontier.Fed.{Fed}
-use Rattle.trie_change.specs.declared.frontier.Item.{Item}
-use Rattle.trie_change.specs.declared.frontier.Item.TheVariants as item
+use Rattle.trie_change.specs.Item.{Item}
+use Rattle.trie_change.specs.Item as item
 use Rattle.trie_change.specs.declared.frontier.Stub.{Stub}
 use Rattle.trie_change.specs.inner.InOrder.{stubs_of}
 use Rattle.trie_change.specs.inner.Settled.{AreEnough, fed_nodes}

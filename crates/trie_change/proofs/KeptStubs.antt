@@ -14,8 +14,8 @@ use Rattle.trie_read.proofs.Ways.{follows}
 use Rattle.trie_change.specs.Frontier.{is_at_stub, is_under, path_node_at}
 use Rattle.trie_change.specs.declared.build.Made.TheVariants as made
 use Rattle.trie_change.specs.declared.diff.Diff.{Diff}
-use Rattle.trie_change.specs.declared.frontier.Item.{Item}
-use Rattle.trie_change.specs.declared.frontier.Item.TheVariants as item
+use Rattle.trie_change.specs.Item.{Item}
+use Rattle.trie_change.specs.Item as item
 use Rattle.trie_change.specs.declared.frontier.Stub.{Stub}
 use Rattle.trie_change.specs.inner.Built.{IsMade, ItemGroup, hash_here, is_made, made_of_group, node_of_group, nodes_from}
 use Rattle.trie_change.specs.inner.Diffs.{Comparison, IsComparison, after_nodes}
@@ -31,7 +31,7 @@ found_here : (b : Bool) (h k : NodeHash) → cond b (Some h) None ≡ Some k →
 found_here true h k e = (refl, cc)
 found_here false h k e = absurd cc
 
-kept_stub : (at : ℕ) (s : Stub) (is : List Item) (g : ItemGroup at (item.Stub s ∷ is)) → length s.path.items ≡ at → (c : Comparison) (d : Diff) → IsComparison d c
+pub kept_stub : (at : ℕ) (s : Stub) (is : List Item) (g : ItemGroup at (item.Stub s ∷ is)) → length s.path.items ≡ at → (c : Comparison) (d : Diff) → IsComparison d c
     → IsMade c (node_of_group g) (made_of_group g) d (made.Kept s.hash)
 kept_stub at s is g e c d k =
     let here : s.path.items ≡ g.path = at_the_path g.path s.path.items g.goes_on.0 (e ∙ sym g.place) in

@@ -14,8 +14,8 @@ use Rattle.trie_root.proofs.ShapesBytes.{all_joined}
 use Rattle.trie_root.proofs.Rows.{unlike}
 use Rattle.trie_read.specs.Depth.{child_too_deep, deep_or_empty, is_bad_node, is_long_value, read_too_deep, too_deep}
 use Rattle.trie_change.specs.Frontier.{IsLimited}
-use Rattle.trie_change.specs.declared.frontier.Item.{Item}
-use Rattle.trie_change.specs.declared.frontier.Item.TheVariants as item
+use Rattle.trie_change.specs.Item.{Item}
+use Rattle.trie_change.specs.Item as item
 use Rattle.trie_change.specs.inner.Known.{Known, KnownKey, KnownNode, all_known, inline_known, known_at, known_in, known_of, own_known, stub_known}
 use Rattle.trie_change.proofs.HangingBetween.{neither_true}
 

@@ -9,7 +9,7 @@ use Rattle.trie_root.proofs.ShapesBytes.{all_joined}
 use Rattle.trie_read.proofs.OneFed.{all_split}
 use Rattle.trie_change.specs.Changing.{IsLimitedSetting}
 use Rattle.trie_change.specs.Frontier.{IsLimited}
-use Rattle.trie_change.specs.declared.frontier.Item.{Item}
+use Rattle.trie_change.specs.Item.{Item}
 use Rattle.trie_change.specs.declared.frontier.Stub.{Stub}
 use Rattle.trie_change.specs.declared.settings.Setting.{Setting}
 use Rattle.trie_change.specs.inner.InOrder.{in_place, next_item}

@@ -4,7 +4,7 @@ use Rattle.std.proofs.lemmas.List.{append-nil, reverse-append, reverse-reverse}
 use Rattle.trie_model.specs.Trie.{Suffix, below, common, common_prefix, with_prefix}
 use Rattle.trie_root.proofs.Prefixes.{below-append}
 use Rattle.trie_read.specs.Paths.{Hangs}
-use Rattle.trie_change.specs.declared.frontier.Item.TheVariants as item
+use Rattle.trie_change.specs.Item as item
 use Rattle.trie_change.specs.declared.frontier.Stub.{Stub}
 use Rattle.trie_change.specs.inner.Built.{ItemGroup}
 use Rattle.trie_change.proofs.FedNodes.{ended}

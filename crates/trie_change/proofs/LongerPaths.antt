@@ -5,8 +5,8 @@ use Rattle.std.specs.List.{starts_with}
 use Rattle.trie_model.specs.Trie.{Suffix, below, with_prefix}
 use Rattle.trie_read.proofs.Among.{Among}
 use Rattle.trie_change.specs.Frontier.{IsItem, is_at_stub, suffixes_for, item_path}
-use Rattle.trie_change.specs.declared.frontier.Item.{Item}
-use Rattle.trie_change.specs.declared.frontier.Item.TheVariants as item
+use Rattle.trie_change.specs.Item.{Item}
+use Rattle.trie_change.specs.Item as item
 use Rattle.trie_change.proofs.Disjoint.{begins, goes_on_from}
 use Rattle.trie_change.proofs.SortedParts.{one_begins, there_some}
 

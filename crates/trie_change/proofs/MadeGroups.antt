@@ -12,8 +12,8 @@ use Rattle.trie_codec.specs.Parts.{node_with}
 use Rattle.trie_change.specs.Frontier.{IsItem, suffixes_for, item_path}
 use Rattle.trie_change.specs.declared.build.Made.TheVariants as made
 use Rattle.trie_change.specs.declared.diff.Diff.{Diff}
-use Rattle.trie_change.specs.declared.frontier.Item.{Item}
-use Rattle.trie_change.specs.declared.frontier.Item.TheVariants as item
+use Rattle.trie_change.specs.Item.{Item}
+use Rattle.trie_change.specs.Item as item
 use Rattle.trie_change.specs.inner.Built.{GoesOnFrom, IsHere, IsMade, IsPastPath, ItemBranch, ItemGroup, hash_here, is_made, made_of_group, node_of_group, nodes_below, value_after, values_below}
 use Rattle.trie_change.specs.inner.Diffs.{Comparison, IsComparison, after_nodes}
 use Rattle.trie_change.proofs.ChildRuns.{in_the_middle}

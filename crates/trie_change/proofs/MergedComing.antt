@@ -6,8 +6,8 @@ use Rattle.std.specs.FinMap.{find, is_sorted}
 use Rattle.std.proofs.lemmas.List.{append-nil}
 use Rattle.trie_model.specs.Trie.{Suffix}
 use Rattle.trie_read.proofs.Among.{Among, among_either, among_left, among_right}
-use Rattle.trie_change.specs.declared.frontier.Item.{Item}
-use Rattle.trie_change.specs.declared.frontier.Item.TheVariants as item
+use Rattle.trie_change.specs.Item.{Item}
+use Rattle.trie_change.specs.Item as item
 use Rattle.trie_change.specs.declared.settings.Setting.{Setting}
 use Rattle.trie_change.specs.inner.InOrder.{set_pair, stubs_of}
 use Rattle.trie_change.specs.inner.Merged.{set_item}

@@ -9,8 +9,8 @@ use Rattle.trie_model.specs.Trie.{Suffix}
 use Rattle.trie_read.proofs.Among.{Among, among_either, among_left, among_right}
 use Rattle.trie_change.specs.Frontier.{suffixes_for}
 use Rattle.trie_change.specs.declared.frontier.Entry.{Entry}
-use Rattle.trie_change.specs.declared.frontier.Item.{Item}
-use Rattle.trie_change.specs.declared.frontier.Item.TheVariants as item
+use Rattle.trie_change.specs.Item.{Item}
+use Rattle.trie_change.specs.Item as item
 use Rattle.trie_change.specs.declared.frontier.Stub.{Stub}
 use Rattle.trie_change.specs.declared.settings.Setting.{Setting}
 use Rattle.trie_change.specs.inner.InOrder.{set_pair, set_pairs, stubs_in, stubs_of}

@@ -9,8 +9,8 @@ use Rattle.trie_model.specs.Trie.{Suffix, below}
 use Rattle.trie_read.proofs.Among.{Among, among_either}
 use Rattle.trie_read.proofs.Rising.{all_weaker}
 use Rattle.trie_change.specs.Frontier.{IsItem, is_at_stub, suffixes_for, item_path}
-use Rattle.trie_change.specs.declared.frontier.Item.{Item}
-use Rattle.trie_change.specs.declared.frontier.Item.TheVariants as item
+use Rattle.trie_change.specs.Item.{Item}
+use Rattle.trie_change.specs.Item as item
 use Rattle.trie_change.specs.declared.settings.Setting.{Setting}
 use Rattle.trie_change.specs.inner.InOrder.{set_pair}
 use Rattle.trie_change.specs.inner.Merged.{IsBelowKey, IsMerged, comes_in, is_replaced, no_more_set, nothing_left, stays_above}

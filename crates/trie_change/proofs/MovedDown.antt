@@ -5,7 +5,7 @@ use Rattle.std.specs.Cmp.Lexicographic.{slice_cmp}
 use Rattle.std.specs.declared.cmp.Ordering.TheVariants.{Equal, Greater}
 use Rattle.std.specs.FinMap.{nat_cmp-IsAntisymmetric, slice_cmp-IsAntisymmetric}
 use Rattle.std.proofs.lemmas.List.{reverse-append}
-use Rattle.trie_change.specs.declared.frontier.Item.{Item}
+use Rattle.trie_change.specs.Item.{Item}
 use Rattle.trie_change.specs.inner.Merged.{IsMerged, IsMovedDown, is_replaced, stays_above}
 use Rattle.trie_change.specs.Frontier.{item_path}
 

@@ -11,7 +11,7 @@ use Rattle.trie_root.proofs.Fronts.{is_sorted-back}
 use Rattle.trie_root.proofs.Rows.{joined}
 use Rattle.trie_read.proofs.Among.{Among, among_either, among_left, among_right}
 use Rattle.trie_change.specs.Frontier.{IsItem, is_at_stub, suffixes_for, item_path}
-use Rattle.trie_change.specs.declared.frontier.Item.{Item}
+use Rattle.trie_change.specs.Item.{Item}
 use Rattle.trie_change.proofs.Disjoint.{nothing_joined}
 use Rattle.trie_change.proofs.LongerPaths.{begins_longer, begins_through, first_there, goes_after, item_goes_through, item_some, item_there}
 use Rattle.trie_change.proofs.SortedParts.{Lies, lies_before, lies_between, some_there}

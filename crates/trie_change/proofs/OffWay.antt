@@ -9,8 +9,8 @@ use Rattle.trie_model.specs.Nodes.{PathNode, has_path, is_stored, nodes_over}
 use Rattle.trie_model.specs.Trie.{Suffix, below, levels_of}
 use Rattle.trie_root.proofs.ShapesBytes.{all_joined}
 use Rattle.trie_read.proofs.Rising.{StartsWith, all_kept, all_weaker, rises_over}
-use Rattle.trie_change.specs.declared.frontier.Item.{Item}
-use Rattle.trie_change.specs.declared.frontier.Item.TheVariants as item
+use Rattle.trie_change.specs.Item.{Item}
+use Rattle.trie_change.specs.Item as item
 use Rattle.trie_change.specs.declared.frontier.Stub.{Stub}
 use Rattle.trie_change.specs.inner.Known.{all_known, known_of}
 use Rattle.trie_change.specs.inner.Stages.{IsOffKeys, all_under, stored_under}

@@ -23,8 +23,8 @@ use Rattle.trie_read.proofs.Sound.{Sound}
 use Rattle.trie_change.specs.ChangedKeys.{keys_in_changes}
 use Rattle.trie_change.specs.Frontier.{IsItem, IsStub, is_at_stub, is_under, path_node_at}
 use Rattle.trie_change.specs.declared.frontier.Fed.{Fed}
-use Rattle.trie_change.specs.declared.frontier.Item.{Item}
-use Rattle.trie_change.specs.declared.frontier.Item.TheVariants as item
+use Rattle.trie_change.specs.Item.{Item}
+use Rattle.trie_change.specs.Item as item
 use Rattle.trie_change.specs.declared.frontier.Stub.{Stub}
 use Rattle.trie_change.specs.inner.InOrder.{IsBelowRoot}
 use Rattle.trie_change.specs.inner.Known.{all_known, known_in}

@@ -16,8 +16,8 @@ use Rattle.trie_read.proofs.NextStage.{one_of}
 use Rattle.trie_read.proofs.OneFed.{all_split}
 use Rattle.trie_read.proofs.Sound.{Sound, node_sound, sound_below}
 use Rattle.trie_change.specs.Frontier.{IsFrontier, IsItem, IsStub, is_at_stub, is_under, path_node_at, suffixes_for}
-use Rattle.trie_change.specs.declared.frontier.Item.{Item}
-use Rattle.trie_change.specs.declared.frontier.Item.TheVariants as item
+use Rattle.trie_change.specs.Item.{Item}
+use Rattle.trie_change.specs.Item as item
 use Rattle.trie_change.specs.declared.frontier.Stub.{Stub}
 use Rattle.trie_change.specs.inner.InOrder.{IsBelowRoot, RootIsAlone}
 use Rattle.trie_change.specs.inner.Known.{all_known, known_in}

@@ -5,7 +5,7 @@ use Rattle.trie_model.specs.Trie.{Suffix, below, common_prefix, with_prefix}
 use Rattle.trie_root.proofs.Prefixes.{Begins, below-append, begins_itself}
 use Rattle.trie_root.proofs.ReadOff.{with_prefix-below}
 use Rattle.trie_change.specs.Frontier.{suffixes_for}
-use Rattle.trie_change.specs.declared.frontier.Item.{Item}
+use Rattle.trie_change.specs.Item.{Item}
 use Rattle.trie_change.specs.inner.Built.{IsHere, ItemBranch, ItemGroup}
 use Rattle.trie_change.proofs.ItemSuffixes.{prefixes_joined}
 use Rattle.trie_change.proofs.ItemsParted.{AreEnds, Parts, more_parts, one_parts, shared_by}

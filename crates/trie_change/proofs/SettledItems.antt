@@ -14,7 +14,7 @@ use Rattle.trie_read.proofs.Hanging.{below-nil}
 use Rattle.trie_read.proofs.Rising.{Rises, rises_kept, stored_rise}
 use Rattle.trie_change.specs.Frontier.{is_under}
 use Rattle.trie_change.specs.declared.frontier.Fed.{Fed}
-use Rattle.trie_change.specs.declared.frontier.Item.{Item}
+use Rattle.trie_change.specs.Item.{Item}
 use Rattle.trie_change.specs.inner.Built.{GoesOnFrom, ItemGroup, is_made, made_of_group, node_of_group, nodes_from}
 use Rattle.trie_change.specs.inner.Diffs.{after_nodes, all_dropped, all_left}
 use Rattle.trie_change.specs.inner.Settled.{AreEnough}

@@ -11,8 +11,8 @@ use Rattle.trie_codec.proofs.Lengths.{length_read}
 use Rattle.trie_model.specs.Nibbles.{packed, paired}
 use Rattle.trie_model.specs.Node.{Node, bitmap, branch_kind, has_child, header, optional_string, spelled, spelling}
 use Rattle.trie_change.specs.Frontier.{IsLimited, item_path}
-use Rattle.trie_change.specs.declared.frontier.Item.{Item}
-use Rattle.trie_change.specs.declared.frontier.Item.TheVariants as item
+use Rattle.trie_change.specs.Item.{Item}
+use Rattle.trie_change.specs.Item as item
 use Rattle.trie_change.specs.inner.Built.{IsShortValue, value_after}
 use Rattle.trie_change.specs.inner.Diffs.{most_in_node}
 

@@ -10,10 +10,11 @@ use Rattle.trie_model.specs.State.{State, apply, no_keys}
 use Rattle.trie_change.specs.ChangedKeys.{keys_in_changes}
 use Rattle.trie_change.specs.Changing.{IsChanging, IsCreating}
 use Rattle.trie_change.specs.declared.change_job.ChangeJob.{ChangeJob}
-use Rattle.trie_change.specs.declared.frontier.Item.{Item}
+use Rattle.trie_change.specs.Item.{Item}
 use Rattle.trie_change.specs.declared.frontier.Stub.{Stub}
 use Rattle.trie_change.specs.declared.settings.Setting.{Setting}
 use Rattle.trie_change.specs.inner.InOrder.{in_place}
+use Rattle.trie_change.specs.inner.Pieces.{all_items, back_items}
 use Rattle.trie_change.specs.inner.Settled.{AreEnough}
 use Rattle.trie_change.specs.inner.Stages.{IsCarriedOut, IsHeld, IsOffKeys, IsUnderWay, IsWaiting, JobParts, job_parts}
 use Rattle.trie_change.proofs.JobItems.{created_items, settled_items}
@@ -31,15 +32,15 @@ pub only_found : (found later : List Item) (wanted : Option Stub) → wanted ≡
 only_found found later wanted none nothing =
     ap (λ (o : Option Stub). in_place found o later) none ∙ ap (λ (xs : List Item). in_place found None xs) nothing ∙ append-nil found
 
-pub finished : (j : ChangeJob) (m : State) (changes : List Change) → IsChanging j m changes [] → AreEnough (stored_nodes m) (apply m changes) j.fed.items j.found.items
+pub finished : (j : ChangeJob) (m : State) (changes : List Change) → IsChanging j m changes [] → AreEnough (stored_nodes m) (apply m changes) j.fed.items (all_items j.found.items)
 finished j m changes c =
     let none : j.wanted ≡ None = none_wanted j.wanted c.wants in
-    let last : IsCarriedOut (job_parts j) m changes [] × (j.later.items ≡ []) =
+    let last : IsCarriedOut (job_parts j) m changes [] × (back_items j.later.items ≡ []) =
     last_stage j.settings.items (job_parts j) m changes [] c.stage.under_way c.stage.waiting none in
-    let only : in_place j.found.items j.wanted j.later.items ≡ j.found.items = only_found j.found.items j.later.items j.wanted none last.1 in
-    settled_items m changes c.within last.0.after j.fed.items j.found.items []
+    let only : in_place (all_items j.found.items) j.wanted (back_items j.later.items) ≡ all_items j.found.items = only_found (all_items j.found.items) (back_items j.later.items) j.wanted none last.1 in
+    settled_items m changes c.within last.0.after j.fed.items (all_items j.found.items) []
     (subst (λ (xs : List Item). IsHeld (apply m changes) m changes j.fed.items xs []) only last.0.held)
     (subst (AllByRecursion (IsOffKeys (keys_in_changes changes))) only last.0.off) last.0.hanging
 
-pub finished_new : (j : ChangeJob) (changes : List Change) → IsCreating j changes → AreEnough [] (apply no_keys changes) j.fed.items j.found.items
-finished_new j changes c = created_items (apply no_keys changes) j.fed.items j.found.items c.stage.after c.stage.frontier c.stage.no_stubs c.stage.none_fed
+pub finished_new : (j : ChangeJob) (changes : List Change) → IsCreating j changes → AreEnough [] (apply no_keys changes) j.fed.items (all_items j.found.items)
+finished_new j changes c = created_items (apply no_keys changes) j.fed.items (all_items j.found.items) c.stage.after c.stage.frontier c.stage.no_stubs c.stage.none_fed

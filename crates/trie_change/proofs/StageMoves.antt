@@ -13,8 +13,8 @@ use Rattle.trie_read.proofs.Rising.{all_weaker}
 use Rattle.trie_change.specs.ChangedKeys.{keys_in_changes}
 use Rattle.trie_change.specs.Frontier.{IsHanging, is_under}
 use Rattle.trie_change.specs.declared.frontier.Fed.{Fed}
-use Rattle.trie_change.specs.declared.frontier.Item.{Item}
-use Rattle.trie_change.specs.declared.frontier.Item.TheVariants as item
+use Rattle.trie_change.specs.Item.{Item}
+use Rattle.trie_change.specs.Item as item
 use Rattle.trie_change.specs.declared.frontier.Stub.{Stub}
 use Rattle.trie_change.specs.declared.settings.Setting.{Setting}
 use Rattle.trie_change.specs.inner.InOrder.{IsBelowRoot, IsOff, begins_one, in_place, stubs_of}

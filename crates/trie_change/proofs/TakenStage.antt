@@ -19,12 +19,13 @@ use Rattle.trie_change.specs.ChangedKeys.{keys_in_changes}
 use Rattle.trie_change.specs.Changing.{change_wanted, first_hash}
 use Rattle.trie_change.specs.declared.change_job.ChangeJob.{ChangeJob}
 use Rattle.trie_change.specs.declared.frontier.Fed.{Fed}
-use Rattle.trie_change.specs.declared.frontier.Item.{Item}
-use Rattle.trie_change.specs.declared.frontier.Item.TheVariants as item
+use Rattle.trie_change.specs.Item.{Item}
+use Rattle.trie_change.specs.Item as item
 use Rattle.trie_change.specs.declared.frontier.Stub.{Stub}
 use Rattle.trie_change.specs.declared.settings.Setting.{Setting}
 use Rattle.trie_change.specs.inner.InOrder.{in_place}
 use Rattle.trie_change.specs.inner.Known.{all_known, known_in}
+use Rattle.trie_change.specs.inner.Pieces.{all_items, back_items}
 use Rattle.trie_change.specs.inner.Stages.{IsCarriedOut, IsHeld, IsOffKeys, IsOnTheWay, IsFedSoFar, IsUnderWay, IsWaiting, JobParts}
 use Rattle.trie_change.proofs.FirstFed.{first_wanted, good_node, nothing_wanted, on_the_way_first, taken_in, unhung_comes_first}
 use Rattle.trie_change.proofs.KnownDeeper.{IsDeeper, all_deeper}
@@ -122,10 +123,10 @@ wants_of j m changes todo within st = by_wanted j.wanted refl
     by_wanted : (o : Option Stub) → j.wanted ≡ o → option_map (λ (s : Stub). s.hash.0) j.wanted ≡ first_hash todo
     by_wanted None e =
         ap (option_map (λ (s : Stub). s.hash.0)) e
-        ∙ none_first j.settings.items j.settings.items m changes j.fed.items j.found.items j.later.items todo
-        (subst (λ (o : Option Stub). IsUnderWay j.settings.items (with_wanted j.settings.items j.fed.items o j.found.items j.later.items) m changes todo) e st.under_way)
-        (subst (λ (o : Option Stub). IsWaiting j.settings.items (with_wanted j.settings.items j.fed.items o j.found.items j.later.items)) e st.waiting)
+        ∙ none_first j.settings.items j.settings.items m changes j.fed.items (all_items j.found.items) (back_items j.later.items) todo
+        (subst (λ (o : Option Stub). IsUnderWay j.settings.items (with_wanted j.settings.items j.fed.items o (all_items j.found.items) (back_items j.later.items)) m changes todo) e st.under_way)
+        (subst (λ (o : Option Stub). IsWaiting j.settings.items (with_wanted j.settings.items j.fed.items o (all_items j.found.items) (back_items j.later.items))) e st.waiting)
     by_wanted (Some s) e =
         ap (option_map (λ (s : Stub). s.hash.0)) e
-        ∙ wanted_first m changes within j.fed.items j.found.items j.later.items s j.settings.items j.settings.items todo
-        (subst (λ (o : Option Stub). IsUnderWay j.settings.items (with_wanted j.settings.items j.fed.items o j.found.items j.later.items) m changes todo) e st.under_way)
+        ∙ wanted_first m changes within j.fed.items (all_items j.found.items) (back_items j.later.items) s j.settings.items j.settings.items todo
+        (subst (λ (o : Option Stub). IsUnderWay j.settings.items (with_wanted j.settings.items j.fed.items o (all_items j.found.items) (back_items j.later.items)) m changes todo) e st.under_way)

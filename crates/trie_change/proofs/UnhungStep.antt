@@ -11,8 +11,8 @@ use Rattle.trie_root.proofs.ShapesBytes.{all_joined}
 use Rattle.trie_read.specs.Paths.{Hangs}
 use Rattle.trie_read.proofs.Binding.{sound_state}
 use Rattle.trie_change.specs.Frontier.{IsFrontier, IsHanging}
-use Rattle.trie_change.specs.declared.frontier.Item.{Item}
-use Rattle.trie_change.specs.declared.frontier.Item.TheVariants as item
+use Rattle.trie_change.specs.Item.{Item}
+use Rattle.trie_change.specs.Item as item
 use Rattle.trie_change.specs.declared.frontier.Stub.{Stub}
 use Rattle.trie_change.specs.inner.InOrder.{hangs_between, in_place}
 use Rattle.trie_change.proofs.HangingBetween.{the_test}

@@ -1,11 +1,8 @@
 -- What a job represents that changes a state by its trie's nodes.
-use Rattle.std.specs.Prelude.{◌≡◌, ◌≤◌, ◌<◌, ℕ, List, [], ◌∷◌, length, map, All, IfSome, Option, Some, None}
-use Rattle.std.specs.Ordering.{nat_cmp}
-use Rattle.std.specs.Cmp.Lexicographic.{slice_cmp}
-use Rattle.std.specs.FinMap.{FinMap, empty, entries, insert}
+use Rattle.std.specs.Prelude.{◌≡◌, ◌≤◌, ℕ, List, [], ◌∷◌, length, All, IfSome, Option, Some, None}
+use Rattle.std.specs.FinMap.{entries}
 use Rattle.std.specs.List.{AllByRecursion}
 use Rattle.std.specs.Option.{option_map}
-use Rattle.sdb_base.specs.Nibbles.{nibbles_of}
 use Rattle.sdb_base.specs.declared.Change.{Change}
 use Rattle.sdb_blake2.specs.Blake2b.{H}
 use Rattle.trie_model.specs.Limits.{ChangesAreWithin, most_in_value}
@@ -18,6 +15,8 @@ use Rattle.trie_change.specs.Frontier.{IsLimited}
 use Rattle.trie_change.specs.declared.frontier.Stub.{Stub}
 use Rattle.trie_change.specs.declared.settings.Setting.{Setting}
 use Rattle.trie_change.specs.declared.change_job.ChangeJob.{ChangeJob}
+use Rattle.trie_change.specs.inner.InOrder.{IsRising}
+use Rattle.trie_change.specs.inner.Pieces.{IsAside, all_items, back_items}
 use Rattle.trie_change.specs.inner.Stages.{IsCreated, IsFedSoFar}
 
 -- the hash that is wanted
@@ -42,12 +41,15 @@ pub record IsLimitedSetting (s : Setting) : Type 0 where
   pub path : IsPartial s.path.items
   pub value : IfSome s.value (λ value. length value ≤ most_in_value)
 
--- the limits, which a job keeps whatever bytes it is fed
+-- the limits, which a job keeps whatever bytes it is fed, and that what it keeps together is apart from what is set
 pub record KeepsLimits (j : ChangeJob) : Type 0 where
   pub settings : AllByRecursion IsLimitedSetting j.settings.items
-  pub found : AllByRecursion IsLimited j.found.items
+  pub found : AllByRecursion IsLimited (all_items j.found.items)
   pub wanted : IfSome j.wanted (λ (s : Stub). IsPartial s.path.items)
-  pub later : AllByRecursion IsLimited j.later.items
+  pub later : AllByRecursion IsLimited (back_items j.later.items)
+  pub rising : IsRising j.settings.items
+  pub found_apart : AllByRecursion (IsAside j.settings.items) j.found.items
+  pub later_apart : AllByRecursion (IsAside j.settings.items) j.later.items
 
 -- The job makes these changes of the state, and these nodes are still to be fed.
 pub record IsChanging (j : ChangeJob) (m : State) (changes : List Change) (todo : List PathNode) : Type 0 where

@@ -1,5 +1,5 @@
 -- What is known of a trie, in the order of keys: keys with their values, and stored nodes by their hashes alone.
-use Rattle.std.specs.Prelude.{◌≡◌, ◌⊎◌, ◌≤◌, ◌<◌, nat_eq, Bool, true, false, ℕ, List, [], ◌∷◌, length, All}
+use Rattle.std.specs.Prelude.{◌≡◌, ◌⊎◌, ◌≤◌, nat_eq, Bool, true, false, ℕ, List, [], ◌∷◌, length}
 use Rattle.std.specs.List.{AllByRecursion, flat_map, list_any, starts_with}
 use Rattle.sdb_blake2.specs.Blake2b.{H}
 use Rattle.trie_model.specs.Limits.{most_in_value}
@@ -7,8 +7,8 @@ use Rattle.trie_model.specs.Node.{IsPartial, spelling}
 use Rattle.trie_model.specs.Nodes.{PathNode, is_stored}
 use Rattle.trie_model.specs.Trie.{Suffix, below, with_prefix}
 use Rattle.trie_read.specs.Paths.{Hangs, node_at}
-use Rattle.trie_change.specs.declared.frontier.Item.{Item}
-use Rattle.trie_change.specs.declared.frontier.Item.TheVariants as item
+use Rattle.trie_change.specs.Item.{Item}
+use Rattle.trie_change.specs.Item as item
 use Rattle.trie_change.specs.declared.frontier.Stub.{Stub}
 
 -- the node at a path of the trie over some suffixes

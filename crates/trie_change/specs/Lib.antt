@@ -1,4 +1,5 @@
 pub mod ChangedKeys
+pub mod Item
 pub mod Frontier
 pub mod Settings
 pub mod Deltas

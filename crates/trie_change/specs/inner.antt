@@ -7,4 +7,5 @@ pub mod Room
 pub mod InOrder
 pub mod LastSet
 pub mod Merged
+pub mod Pieces
 pub mod Stages

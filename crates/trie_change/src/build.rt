@@ -1,16 +1,18 @@
-ghost use Rattle.std.specs.Prelude.{◌≡◌, ◌≢◌, suc, ◌+◌, ◌-◌, ◌<◌, ◌≤◌, List, [], ◌++◌, ◌∷◌, All, IfOk, IfSome, OnOk, Some, None, drop, filter, length, slice_index_or, take, true, false};
+ghost use Rattle.std.specs.Prelude.{◌≡◌, ◌≢◌, ℕ, suc, ◌+◌, ◌-◌, ◌<◌, ◌≤◌, List, [], ◌++◌, ◌∷◌, All, IfOk, IfSome, OnOk, Some, None, drop, filter, length, slice_index_or, take, true, false};
 ghost use Rattle.sdb_blake2.specs.Blake2b.{H};
-ghost use Rattle.trie_model.specs.Node.{merkle_value, spelling};
+ghost use Rattle.trie_model.specs.Limits.{most_in_value};
+ghost use Rattle.trie_model.specs.Node.{IsPartial, merkle_value, spelling};
 ghost use Rattle.trie_model.specs.Nodes.{PathNode};
 ghost use Rattle.trie_model.specs.Trie.{below, child_value, common, node_of_all};
 ghost use Rattle.trie_codec.specs.Parts.{node_with};
 ghost use Rattle.trie_codec.specs.Slices.{bytes_in};
-ghost use Rattle.trie_change.specs.Frontier.{IsLimited, item_path};
-ghost use Rattle.trie_change.specs.inner.Built.{FitsNode, IsMade, IsShortValue, ItemBranch, ItemGroup, hash_here, is_made, made_of_group, node_of_group, nodes_at, nodes_below, rank_after, value_after, values_below};
+ghost use Rattle.trie_change.specs.Frontier.{IsLimited};
+ghost use Rattle.trie_change.specs.inner.Built.{FitsNode, IsMade, IsShortValue, ItemBranch, ItemGroup, is_made, made_of_group, node_of_group, nodes_at, nodes_below, values_below};
+ghost use Rattle.trie_change.specs.inner.Pieces.{IsCutAt, IsUncut, all_items, piece_hash, piece_path, piece_rank, piece_value, sibling_items};
 ghost use Rattle.trie_change.specs.inner.Diffs.{AreShort, Comparison, IsComparison, after_nodes, most_in_node};
 
 use crate::diff::Diff;
-use crate::frontier::Item;
+use crate::frontier::{Piece, Sibling};
 use crate::in_order::path_of;
 use sdb_base::{Bytes, Nibbles, NodeHash, OutOfMemory};
 use std::alloc::Global;
@@ -30,12 +32,12 @@ enum Made {
 pub(crate) fn root_of(
     alloc: Global,
     diff: &mut Diff,
-    items: &[Item],
+    items: &[Piece],
 ) -> Result<NodeHash, OutOfMemory>
-    requires limited { All IsLimited items.now }
+    requires limited { All IsLimited (all_items items.now) }
     requires short { AreShort diff.old.puts.items }
     ensures still_short { OnOk result (AreShort diff.new.puts.items) }
-    ensures root { (g : ItemGroup 0 items.now) (c : Comparison) → IsComparison diff.old c
+    ensures root { (g : ItemGroup 0 (all_items items.now)) (c : Comparison) → IsComparison diff.old c
         → IfOk result (λ root. (root.0 ≡ H (node_of_group g).bytes)
         × IsComparison diff.new (after_nodes c (made_of_group g))) }
 {
@@ -46,12 +48,12 @@ pub(crate) fn root_of(
 }
 
 // The root node, that of the empty trie where there are no items.
-fn root_made(alloc: Global, diff: &mut Diff, items: &[Item]) -> Result<Made, OutOfMemory>
-    requires limited { All IsLimited items.now }
+fn root_made(alloc: Global, diff: &mut Diff, items: &[Piece]) -> Result<Made, OutOfMemory>
+    requires limited { All IsLimited (all_items items.now) }
     requires short { AreShort diff.old.puts.items }
     ensures still_short { OnOk result (AreShort diff.new.puts.items) }
     ensures fits { IfOk result FitsNode }
-    ensures made { (g : ItemGroup 0 items.now) (c : Comparison) → IsComparison diff.old c
+    ensures made { (g : ItemGroup 0 (all_items items.now)) (c : Comparison) → IsComparison diff.old c
         → IfOk result (IsMade c (node_of_group g) (made_of_group g) diff.new) }
 {
     if items.is_empty() {
@@ -77,14 +79,14 @@ fn spell_empty(alloc: Global) -> Result<Bytes, OutOfMemory>
 // The node over items that agree in their first `at` nibbles, of which there is one at least. The stored ones below it, from
 // the highest path down, go to the comparison.
 #[cycle(nodes)]
-fn made_of(alloc: Global, diff: &mut Diff, items: &[Item], at: usize) -> Result<Made, OutOfMemory>
+fn made_of(alloc: Global, diff: &mut Diff, items: &[Piece], at: usize) -> Result<Made, OutOfMemory>
     requires some { 1 ≤ length items.now }
-    requires limited { All IsLimited items.now }
-    requires long { All (λ i. at ≤ length (item_path i)) items.now }
+    requires limited { All IsLimited (all_items items.now) }
+    requires long { All (λ p. at ≤ length (piece_path p)) items.now }
     requires short { AreShort diff.old.puts.items }
     ensures still_short { OnOk result (AreShort diff.new.puts.items) }
     ensures fits { IfOk result FitsNode }
-    ensures made { (g : ItemGroup at items.now) (c : Comparison) → IsComparison diff.old c
+    ensures made { (g : ItemGroup at (all_items items.now)) (c : Comparison) → IsComparison diff.old c
         → IfOk result (IsMade c (node_of_group g) (made_of_group g) diff.new) }
 {
     if let Some(hash) = hash_here(&items[0], at) {
@@ -102,25 +104,36 @@ fn made_of(alloc: Global, diff: &mut Diff, items: &[Item], at: usize) -> Result<
 fn children_of(
     alloc: Global,
     diff: &mut Diff,
-    items: &[Item],
+    items: &[Piece],
     at: usize,
 ) -> Result<Vec<Option<MerkleValue>>, OutOfMemory>
     requires at { at ≤ 2048 }
-    requires limited { All IsLimited items.now }
+    requires limited { All IsLimited (all_items items.now) }
     requires short { AreShort diff.old.puts.items }
     ensures still_short { OnOk result (AreShort diff.new.puts.items) }
     ensures sixteen { IfOk result (λ children. length children.items ≡ 16) }
     ensures fits { IfOk result (λ children. All (λ child. IfSome child IsShortValue) children.items) }
-    ensures children { (b : ItemBranch at items.now) (c : Comparison) → IsComparison diff.old c
+    ensures children { (b : ItemBranch at (all_items items.now)) (c : Comparison) → IsComparison diff.old c
         → IfOk result (λ children. (children.items ≡ values_below b.group.suffixes b.group.path)
         × IsComparison diff.new (after_nodes c (filter (is_made b.group.under) (nodes_below b.group.suffixes b.group.path)))) }
 {
     let mut children = Vec::with_capacity(alloc, 16)?;
     let mut rest = items;
+    let mut nodes: &[Sibling] = &[];
     for count in 0..16u8 {
-        let start = run_start(rest, at, 15 - count);
-        push_child(alloc, diff, &rest[start..], at + 1, &mut children)?;
-        rest = &rest[..start];
+        (rest, nodes) = left_here(rest, nodes, at);
+        match nodes.split_last() {
+            Some((last, others)) if last.nibble == 15 - count => {
+                push_hash(&mut children, &last.hash)?;
+                nodes = others;
+            }
+            Some(_) => push_none(&mut children)?,
+            None => {
+                let start = run_start(rest, at, 15 - count);
+                push_child(alloc, diff, &rest[start..], at + 1, &mut children)?;
+                rest = &rest[..start];
+            }
+        }
     }
     children.reverse();
     Ok(children)
@@ -131,18 +144,18 @@ fn children_of(
 fn push_child(
     alloc: Global,
     diff: &mut Diff,
-    items: &[Item],
+    items: &[Piece],
     at: usize,
     children: &mut Vec<Option<MerkleValue>>,
 ) -> Result<(), OutOfMemory>
     requires at { 1 ≤ at }
-    requires limited { All IsLimited items.now }
-    requires long { All (λ i. at ≤ length (item_path i)) items.now }
+    requires limited { All IsLimited (all_items items.now) }
+    requires long { All (λ p. at ≤ length (piece_path p)) items.now }
     requires short { AreShort diff.old.puts.items }
     ensures still_short { OnOk result (AreShort diff.new.puts.items) }
     ensures one { OnOk result (length children.new.items ≡ length children.old.items + 1) }
     ensures fits { All (λ child. IfSome child IsShortValue) children.old.items → OnOk result (All (λ child. IfSome child IsShortValue) children.new.items) }
-    ensures child { (g : ItemGroup at items.now) (c : Comparison) → IsComparison diff.old c
+    ensures child { (g : ItemGroup at (all_items items.now)) (c : Comparison) → IsComparison diff.old c
         → OnOk result ((children.new.items ≡ children.old.items ++ child_value node_of_all (below g.path g.suffixes) ∷ [])
         × IsComparison diff.new (after_nodes c (filter (is_made g.under) (nodes_at g.suffixes g.path)))) }
 {
@@ -165,7 +178,8 @@ fn push_none(children: &mut Vec<Option<MerkleValue>>) -> Result<(), OutOfMemory>
 // Adds a hash as a Merkle value.
 #[inline(never)]
 fn push_hash(children: &mut Vec<Option<MerkleValue>>, hash: &NodeHash) -> Result<(), OutOfMemory>
-    ensures { OnOk result (children.new.items ≡ children.old.items ++ Some hash.now.0 ∷ []) }
+    ensures pushed { OnOk result (children.new.items ≡ children.old.items ++ Some hash.now.0 ∷ []) }
+    ensures short { IsShortValue hash.now.0 }
 {
     children.push(Some(MerkleValue::of(&hash.0)))?;
     Ok(())
@@ -202,13 +216,41 @@ fn push_value(
     }
 }
 
+// What is left of pieces and of siblings: where no sibling is left, the last piece's, if it is siblings that part after `at`
+// nibbles.
+fn left_here<'a>(rest: &'a [Piece], nodes: &'a [Sibling], at: usize) -> (&'a [Piece], &'a [Sibling])
+    ensures same { (end : List ℕ) → length end ≡ at → (other : List ℕ) × (length other ≡ at)
+        × (all_items rest.now ++ sibling_items end nodes.now ≡ all_items result.0.now ++ sibling_items other result.1.now) }
+    ensures none { (p : Piece) (before : List Piece) → result.1.now ≡ [] → result.0.now ≡ before ++ p ∷ [] → IsUncut at p }
+    ensures front { result.0.now ≡ take (length result.0.now) rest.now }
+{
+    if nodes.is_empty() {
+        return siblings_here(rest, at);
+    }
+    (rest, nodes)
+}
+
+// The pieces without the last, and the nodes of that, where it is siblings that part after `at` nibbles.
+fn siblings_here(items: &[Piece], at: usize) -> (&[Piece], &[Sibling])
+    ensures cut { IsCutAt at items.now result.0.now result.1.now }
+    ensures none { (p : Piece) (before : List Piece) → result.1.now ≡ [] → result.0.now ≡ before ++ p ∷ [] → IsUncut at p }
+    ensures front { result.0.now ≡ take (length result.0.now) items.now }
+{
+    if let Some((Piece::Siblings(siblings), others)) = items.split_last() {
+        if siblings.end.len() == at {
+            return (others, siblings.nodes.as_slice());
+        }
+    }
+    (items, &[])
+}
+
 // The hash of a stub whose path has `at` nibbles.
-fn hash_here(item: &Item, at: usize) -> Option<NodeHash>
-    ensures { result ≡ hash_here at item.now }
+fn hash_here(item: &Piece, at: usize) -> Option<NodeHash>
+    ensures { result ≡ piece_hash at item.now }
 {
     match item {
-        Item::Entry(_) => None,
-        Item::Stub(stub) => {
+        Piece::Entry(_) | Piece::Siblings(_) => None,
+        Piece::Stub(stub) => {
             if stub.path.as_slice().len() == at {
                 Some(stub.hash)
             } else {
@@ -219,18 +261,18 @@ fn hash_here(item: &Item, at: usize) -> Option<NodeHash>
 }
 
 // An item's first `at` nibbles.
-fn path_before(item: &Item, at: usize) -> &[u8]
-    requires { at ≤ length (item_path item.now) }
-    ensures { result.now ≡ take at (item_path item.now) }
+fn path_before(item: &Piece, at: usize) -> &[u8]
+    requires { at ≤ length (piece_path item.now) }
+    ensures { result.now ≡ take at (piece_path item.now) }
 {
     &path_of(item)[..at]
 }
 
 // How many nibbles the first and the last item share after `at`.
-fn shared_of_ends(items: &[Item], at: usize) -> usize
+fn shared_of_ends(items: &[Piece], at: usize) -> usize
     requires some { 1 ≤ length items.now }
-    ensures { (d : Item) → result ≡ length (common (drop at (item_path (slice_index_or items.now 0 d)))
-        (drop at (item_path (slice_index_or items.now (length items.now - 1) d)))) }
+    ensures { (d : Piece) → result ≡ length (common (drop at (piece_path (slice_index_or items.now 0 d)))
+        (drop at (piece_path (slice_index_or items.now (length items.now - 1) d)))) }
 {
     let first = path_of(&items[0]);
     let last = path_of(&items[items.len() - 1]);
@@ -251,10 +293,10 @@ fn shared_len(a: &[u8], b: &[u8], at: usize) -> usize
 }
 
 // From which item on all go on with the nibble after `at` nibbles.
-fn run_start(items: &[Item], at: usize, nibble: u8) -> usize
+fn run_start(items: &[Piece], at: usize, nibble: u8) -> usize
     ensures fits { result ≤ length items.now }
-    ensures run { All (λ i. rank_after at i ≡ suc nibble) (drop result items.now) }
-    ensures other { (d : Item) → 0 < result → rank_after at (slice_index_or items.now (result - 1) d) ≢ suc nibble }
+    ensures run { All (λ p. piece_rank at p ≡ suc nibble) (drop result items.now) }
+    ensures other { (d : Piece) → 0 < result → piece_rank at (slice_index_or items.now (result - 1) d) ≢ suc nibble }
 {
     let mut start = items.len();
     while start > 0 && goes_on(&items[start - 1], at, nibble) {
@@ -264,9 +306,9 @@ fn run_start(items: &[Item], at: usize, nibble: u8) -> usize
 }
 
 // Whether an item goes on with the nibble after `at` nibbles.
-fn goes_on(item: &Item, at: usize, nibble: u8) -> bool
-    ensures yes { result ≡ true → rank_after at item.now ≡ suc nibble }
-    ensures no { result ≡ false → rank_after at item.now ≢ suc nibble }
+fn goes_on(item: &Piece, at: usize, nibble: u8) -> bool
+    ensures yes { result ≡ true → piece_rank at item.now ≡ suc nibble }
+    ensures no { result ≡ false → piece_rank at item.now ≢ suc nibble }
 {
     match path_of(item).get(at) {
         None => false,
@@ -275,18 +317,18 @@ fn goes_on(item: &Item, at: usize, nibble: u8) -> bool
 }
 
 // The value of the key that ends at `at` nibbles, if the item is one.
-fn value_here(item: &Item, at: usize) -> Option<&[u8]>
-    ensures { bytes_in result ≡ value_after at item.now }
+fn value_here(item: &Piece, at: usize) -> Option<&[u8]>
+    ensures { bytes_in result ≡ piece_value at item.now }
 {
     match item {
-        Item::Entry(entry) => {
+        Piece::Entry(entry) => {
             if entry.path.as_slice().len() == at {
                 Some(entry.value.as_slice())
             } else {
                 None
             }
         }
-        Item::Stub(_) => None,
+        Piece::Stub(_) | Piece::Siblings(_) => None,
     }
 }
 
@@ -294,19 +336,20 @@ fn value_here(item: &Item, at: usize) -> Option<&[u8]>
 #[inline(never)]
 fn spell_node(
     alloc: Global,
-    first: &Item,
+    first: &Piece,
     at: usize,
     end: usize,
     children: &[Option<MerkleValue>],
 ) -> Result<Bytes, OutOfMemory>
-    requires limited { IsLimited first.now }
+    requires limited { IsPartial (piece_path first.now) }
+    requires value { IfSome (piece_value end first.now) (λ v. length v ≤ most_in_value) }
     requires rises { at ≤ end }
-    requires end { end ≤ length (item_path first.now) }
+    requires end { end ≤ length (piece_path first.now) }
     requires sixteen { length children.now ≡ 16 }
     requires short { All (λ child. IfSome child IsShortValue) children.now }
     ensures fits { IfOk result (λ bytes. length bytes ≤ most_in_node) }
     ensures spelled { IfOk result (λ bytes. bytes
-        ≡ spelling (node_with (take (end - at) (drop at (item_path first.now))) (value_after end first.now) children.now)) }
+        ≡ spelling (node_with (take (end - at) (drop at (piece_path first.now))) (piece_value end first.now) children.now)) }
 {
     let partial = &path_of(first)[at..end];
     encode_parts(alloc, partial, value_here(first, end), children)

@@ -1,8 +1,8 @@
 ghost use Rattle.std.specs.Prelude.{◌≡◌, IfOk};
 
 use crate::delta::{Delta, delta_of};
-use crate::expand::items_of;
-use crate::frontier::{Fed, Item, Stub};
+use crate::expand::pieces_of;
+use crate::frontier::{Fed, Piece, Stub};
 use crate::in_order::{move_to_set, move_to_unhung};
 use crate::room::{larger, move_over};
 use crate::settings::{Setting, carry_out, move_all, settings_of};
@@ -15,15 +15,15 @@ use trie_read::{TrieFault, read_node};
 #[derive(Debug, Drop)]
 pub struct ChangeJob {
     alloc: Global,
-    // What keys are set to, by rising key; none is left once the items have it.
+    // What keys are set to, by rising key; none is left once the pieces have it.
     settings: Vec<Setting>,
     // The nodes that were fed.
     fed: Vec<Fed>,
     wanted: Option<Stub>,
-    // The items before the wanted node, rising.
-    found: Vec<Item>,
+    // The pieces before the wanted node, rising.
+    found: Vec<Piece>,
     // What comes after it, the last first.
-    later: Vec<Item>,
+    later: Vec<Piece>,
 }
 
 // A node that was fed.
@@ -65,6 +65,7 @@ impl ChangeJob {
     ghost use Rattle.trie_change.specs.inner.InOrder.{set_pairs};
     ghost use Rattle.trie_change.specs.inner.Known.{all_known, known_in};
     ghost use Rattle.trie_change.specs.inner.Merged.{HasBytes};
+    ghost use Rattle.trie_change.specs.inner.Pieces.{IsAside, all_items};
     ghost use Rattle.trie_change.specs.inner.Stages.{HasPlaces, IsCarriedOut, IsFedSoFar, IsUnderWay, job_parts};
     ghost use Rattle.trie_change.specs.declared.frontier.Stub.{Stub};
 
@@ -105,7 +106,7 @@ impl ChangeJob {
         let mut job = ChangeJob::begun(alloc, changes)?;
         let path = SmallVec::new(alloc);
         job.later
-            .push_reserved(Item::Stub(Stub { path, hash: root }));
+            .push_reserved(Piece::Stub(Stub { path, hash: root }));
         job.go_on();
         Ok(job)
     }
@@ -154,13 +155,18 @@ impl ChangeJob {
         let Some(node) = read_node(wanted.path.len(), bytes) else {
             return Err(TrieFault::BadNode { hash });
         };
-        let Ok(items) = items_of(self.alloc, wanted.path.as_slice(), &node) else {
+        let Ok(pieces) = pieces_of(
+            self.alloc,
+            self.settings.as_slice(),
+            wanted.path.as_slice(),
+            &node,
+        ) else {
             return Err(TrieFault::OutOfMemory);
         };
         let Ok(fed) = fed_of(self.alloc, wanted, bytes) else {
             return Err(TrieFault::OutOfMemory);
         };
-        let Ok(()) = self.take(items, fed) else {
+        let Ok(()) = self.take(pieces, fed) else {
             return Err(TrieFault::OutOfMemory);
         };
         Ok(())
@@ -178,17 +184,18 @@ impl ChangeJob {
     }
 
     // Takes what the wanted node has in its place. An `Err` changes nothing.
-    fn take(&mut self, mut items: Vec<Item>, fed: Fed) -> Result<(), OutOfMemory>
+    fn take(&mut self, mut pieces: Vec<Piece>, fed: Fed) -> Result<(), OutOfMemory>
         requires limits { KeepsLimits self.old }
-        requires limited { AllByRecursion IsLimited items.items }
+        requires limited { AllByRecursion IsLimited (all_items pieces.items) }
+        requires apart { AllByRecursion (IsAside self.old.settings.items) pieces.items }
         ensures limits { KeepsLimits self.new }
         ensures taken { (m : State) (changes : List Change) (n : PathNode) (todo : List PathNode) (s : Stub) (node : Node)
             → IsChanging self.old m changes (n ∷ todo) → self.old.wanted ≡ Some s → fed.path.items ≡ s.path.items → fed.hash ≡ s.hash → fed.bytes ≡ n.bytes
-            → node_of_bytes n.bytes ≡ Ok node → all_known items.items ≡ known_in 33 node s.path.items
+            → node_of_bytes n.bytes ≡ Ok node → all_known (all_items pieces.items) ≡ known_in 33 node s.path.items
             → OnOk result (IsChanging self.new m changes todo) }
         ensures err { OnErr result (self.new ≡ self.old) }
     {
-        let Some(most) = self.most_with(items.len()) else {
+        let Some(most) = self.most_with(pieces.len()) else {
             return Err(AllocError);
         };
         let Some(most_fed) = self.fed.len().checked_add(1) else {
@@ -202,7 +209,7 @@ impl ChangeJob {
         move_over(&mut self.fed, others);
         self.wanted = None;
         self.fed.push_reserved(fed);
-        move_all(&mut items, &mut self.later);
+        move_all(&mut pieces, &mut self.later);
         self.go_on();
         Ok(())
     }

@@ -4,11 +4,12 @@ ghost use Rattle.trie_model.specs.State.{State};
 ghost use Rattle.trie_model.specs.Trie.{trie_root};
 ghost use Rattle.trie_change.specs.Deltas.{IsDeltaOf};
 ghost use Rattle.trie_change.specs.Frontier.{IsLimited};
+ghost use Rattle.trie_change.specs.inner.Pieces.{all_items};
 ghost use Rattle.trie_change.specs.inner.Settled.{AreEnough};
 
 use crate::build::root_of;
 use crate::diff::Diff;
-use crate::frontier::{Fed, Item};
+use crate::frontier::{Fed, Piece};
 use sdb_base::{HashList, NodeHash, NodeList, OutOfMemory};
 use std::alloc::{AllocError, Global};
 
@@ -29,9 +30,9 @@ pub struct Delta {
 const MOST_NODES: usize = 0x1_0000_0000;
 
 /// What is put and dropped where the items are what is known of the changed trie, and these nodes were fed of the one before.
-pub(crate) fn delta_of(alloc: Global, items: &[Item], fed: Vec<Fed>) -> Result<Delta, OutOfMemory>
-    requires limited { All IsLimited items.now }
-    ensures settled { (old : List PathNode) (m2 : State) → AreEnough old m2 fed.items items.now
+pub(crate) fn delta_of(alloc: Global, items: &[Piece], fed: Vec<Fed>) -> Result<Delta, OutOfMemory>
+    requires limited { All IsLimited (all_items items.now) }
+    ensures settled { (old : List PathNode) (m2 : State) → AreEnough old m2 fed.items (all_items items.now)
         → IfOk result (λ d. IsDeltaOf d (trie_root m2) (nodes_without (stored_nodes m2) old) (nodes_without old (stored_nodes m2))) }
     ensures few { IfOk result (λ d. (length d.puts < 2 ^ 32) × (length d.drops < 2 ^ 32)) }
     ensures short { IfOk result (λ d. All (λ n. length n.bytes ≤ 4200000) d.puts) }

@@ -1,9 +1,13 @@
-ghost use Rattle.std.specs.Prelude.{◌≡◌, ◌++◌, ◌∷◌, [], length, IfOk, OnOk};
+ghost use Rattle.std.specs.Prelude.{◌≡◌, ◌⊎◌, ◌+◌, ◌≤◌, ◌<◌, ◌++◌, ◌∷◌, List, [], None, Some, false, length, slice_index_or, IfOk, IfSome, OnOk};
+ghost use Rattle.std.specs.List.{AllByRecursion};
 ghost use Rattle.trie_codec.specs.NodeParts.{child_bytes, node_of_ref};
 ghost use Rattle.trie_codec.specs.Slices.{bytes_in};
+ghost use Rattle.trie_change.specs.inner.InOrder.{IsRising};
+ghost use Rattle.trie_change.specs.inner.Pieces.{AreAside, IsAside, all_items, sibling_items};
 ghost use Rattle.trie_change.specs.inner.Known.{HasItsSize, all_known, known_at, known_in, own_known, stub_known};
 
-use crate::frontier::{Entry, Item, Path, Stub};
+use crate::frontier::{Entry, Path, Piece, Sibling, Siblings, Stub};
+use crate::settings::{Setting, nibbles_set};
 use sdb_base::{Bytes, NodeHash, OutOfMemory};
 use smallvec::SmallVec;
 use std::alloc::Global;
@@ -50,29 +54,33 @@ fn put_own(
     alloc: Global,
     key: &[u8],
     value: Option<&[u8]>,
-    out: &mut Vec<Item>,
+    out: &mut Vec<Piece>,
 ) -> Result<(), OutOfMemory>
-    ensures { OnOk result (all_known out.new.items ≡ all_known out.old.items ++ own_known key.now (bytes_in value.entry)) }
+    ensures known { OnOk result (all_known (all_items out.new.items) ≡ all_known (all_items out.old.items) ++ own_known key.now (bytes_in value.entry)) }
+    ensures apart { (settings : List Setting) → AllByRecursion (IsAside settings) out.old.items
+        → OnOk result (AllByRecursion (IsAside settings) out.new.items) }
 {
     let Some(value) = value else {
         return Ok(());
     };
     let path = SmallVec::from_slice(alloc, key)?;
     let value = Bytes::from_slice(alloc, value)?;
-    out.push(Item::Entry(Entry { path, value }))?;
+    out.push(Piece::Entry(Entry { path, value }))?;
     Ok(())
 }
 
 // Adds a stored node by its hash. No key is so long that it could go on with a path above the limit.
-fn put_stub(path: Path, hash: &[u8], out: &mut Vec<Item>) -> Result<(), OutOfMemory>
+fn put_stub(path: Path, hash: &[u8], out: &mut Vec<Piece>) -> Result<(), OutOfMemory>
     requires { length hash.now ≡ 32 }
-    ensures { OnOk result (all_known out.new.items ≡ all_known out.old.items ++ stub_known path.items hash.now) }
+    ensures known { OnOk result (all_known (all_items out.new.items) ≡ all_known (all_items out.old.items) ++ stub_known path.items hash.now) }
+    ensures apart { (settings : List Setting) → AllByRecursion (IsAside settings) out.old.items
+        → OnOk result (AllByRecursion (IsAside settings) out.new.items) }
 {
     if path.len() > MOST_NIBBLES {
         return Ok(());
     }
     let hash = NodeHash(hash_of(hash));
-    out.push(Item::Stub(Stub { path, hash }))?;
+    out.push(Piece::Stub(Stub { path, hash }))?;
     Ok(())
 }
 
@@ -83,10 +91,12 @@ fn put_items(
     levels: u8,
     path: &[u8],
     node: &NodeRef,
-    out: &mut Vec<Item>,
+    out: &mut Vec<Piece>,
 ) -> Result<(), OutOfMemory>
-    ensures { OnOk result (all_known out.new.items
-        ≡ all_known out.old.items ++ known_in levels (node_of_ref node.now) path.now) }
+    ensures known { OnOk result (all_known (all_items out.new.items)
+        ≡ all_known (all_items out.old.items) ++ known_in levels (node_of_ref node.now) path.now) }
+    ensures apart { (settings : List Setting) → AllByRecursion (IsAside settings) out.old.items
+        → OnOk result (AllByRecursion (IsAside settings) out.new.items) }
 {
     if levels == 0 {
         return Ok(());
@@ -108,11 +118,13 @@ fn put_child(
     end: &[u8],
     nibble: u8,
     child: ChildRef,
-    out: &mut Vec<Item>,
+    out: &mut Vec<Piece>,
 ) -> Result<(), OutOfMemory>
     requires { HasItsSize child }
-    ensures { OnOk result (all_known out.new.items
-        ≡ all_known out.old.items ++ known_at (known_in levels) (end.now ++ nibble ∷ []) (child_bytes child.entry)) }
+    ensures known { OnOk result (all_known (all_items out.new.items)
+        ≡ all_known (all_items out.old.items) ++ known_at (known_in levels) (end.now ++ nibble ∷ []) (child_bytes child.entry)) }
+    ensures apart { (settings : List Setting) → AllByRecursion (IsAside settings) out.old.items
+        → OnOk result (AllByRecursion (IsAside settings) out.new.items) }
 {
     if let ChildRef::None = child {
         return Ok(());
@@ -128,11 +140,102 @@ fn put_child(
     }
 }
 
-/// What a node has whose path this is, and the inline nodes in it, in the order of keys.
-pub(crate) fn items_of(alloc: Global, path: &[u8], node: &NodeRef) -> Result<Vec<Item>, OutOfMemory>
-    ensures { IfOk result (λ items. all_known items.items ≡ known_in 33 (node_of_ref node.now) path.now) }
+// Adds the siblings that were gathered: none, one as a stub, or more of them together.
+fn put_run(
+    alloc: Global,
+    end: &[u8],
+    nodes: Vec<Sibling>,
+    out: &mut Vec<Piece>,
+) -> Result<(), OutOfMemory>
+    ensures items { OnOk result (all_known (all_items out.new.items) ≡ all_known (all_items out.old.items) ++ all_known (sibling_items end.now nodes.items)) }
+    ensures apart { (settings : List Setting) → AreAside settings (sibling_items end.now nodes.items)
+        → AllByRecursion (IsAside settings) out.old.items → OnOk result (AllByRecursion (IsAside settings) out.new.items) }
 {
-    let mut items = Vec::new(alloc);
-    put_items(alloc, MOST_LEVELS, path, node, &mut items)?;
-    Ok(items)
+    let mut nodes = nodes;
+    if nodes.len() >= 2 {
+        let end = SmallVec::from_slice(alloc, end)?;
+        out.push(Piece::Siblings(Siblings { end, nodes }))?;
+        return Ok(());
+    }
+    if let Some(node) = nodes.pop() {
+        let path = child_path(alloc, end, node.nibble)?;
+        let hash = node.hash;
+        out.push(Piece::Stub(Stub { path, hash }))?;
+    }
+    Ok(())
+}
+
+// The hash of a child that is off the way to all keys that are set, and not deeper than a key goes.
+fn sibling_at(node: &NodeRef, end: &[u8], nibble: u8, is_set: bool) -> Option<Sibling>
+    requires { nibble < 16 }
+    ensures some { IfSome result (λ s. (s.nibble ≡ nibble) × (is_set ≡ false) × (length end.now + 1 ≤ 2048)
+        × (slice_index_or (node_of_ref node.now).children nibble None ≡ Some s.hash.0) × (length s.hash.0 ≡ 32)) }
+{
+    if is_set || end.len() >= MOST_NIBBLES {
+        return None;
+    }
+    match node.child(nibble) {
+        ChildRef::Hashed(hash) => Some(Sibling {
+            nibble,
+            hash: NodeHash(hash_of(hash)),
+        }),
+        _ => None,
+    }
+}
+
+// Ends a run of siblings before a child, and adds what there is at the child. The run goes on where there is nothing and no
+// key that is set goes on with the nibble.
+fn put_after_run(
+    alloc: Global,
+    end: &[u8],
+    nibble: u8,
+    child: ChildRef,
+    is_set: bool,
+    run: Vec<Sibling>,
+    out: &mut Vec<Piece>,
+) -> Result<Vec<Sibling>, OutOfMemory>
+    requires { HasItsSize child }
+    ensures known { IfOk result (λ rest. all_known (all_items out.new.items) ++ all_known (sibling_items end.now rest.items)
+        ≡ (all_known (all_items out.old.items) ++ all_known (sibling_items end.now run.items))
+        ++ known_at (known_in 32) (end.now ++ nibble ∷ []) (child_bytes child.entry)) }
+    ensures apart { (settings : List Setting) → AreAside settings (sibling_items end.now run.items)
+        → AllByRecursion (IsAside settings) out.old.items → OnOk result (AllByRecursion (IsAside settings) out.new.items) }
+    ensures rest { IfOk result (λ rest. (rest.items ≡ []) ⊎ ((rest.items ≡ run.items) × (is_set ≡ false))) }
+{
+    if !is_set {
+        if let ChildRef::None = child {
+            return Ok(run);
+        }
+    }
+    put_run(alloc, end, run, out)?;
+    put_child(alloc, MOST_LEVELS - 1, end, nibble, child, out)?;
+    Ok(Vec::new(alloc))
+}
+
+/// What a node has whose path this is, and the inline nodes in it, in the order of keys.
+pub(crate) fn pieces_of(
+    alloc: Global,
+    settings: &[Setting],
+    path: &[u8],
+    node: &NodeRef,
+) -> Result<Vec<Piece>, OutOfMemory>
+    ensures known { IfOk result (λ pieces. all_known (all_items pieces.items) ≡ known_in 33 (node_of_ref node.now) path.now) }
+    ensures apart { IsRising settings.now → IfOk result (λ pieces. AllByRecursion (IsAside settings.now) pieces.items) }
+{
+    let end = end_of(alloc, path, node)?;
+    let end = end.as_slice();
+    let set = nibbles_set(settings, end);
+    let mut pieces = Vec::new(alloc);
+    put_own(alloc, end, node.value(), &mut pieces)?;
+    let mut run = Vec::new(alloc);
+    for i in 0..16u8 {
+        let is_set = set[i as usize];
+        if let Some(sibling) = sibling_at(node, end, i, is_set) {
+            run.push(sibling)?;
+            continue;
+        }
+        run = put_after_run(alloc, end, i, node.child(i), is_set, run, &mut pieces)?;
+    }
+    put_run(alloc, end, run, &mut pieces)?;
+    Ok(pieces)
 }

@@ -4,7 +4,8 @@
 //! with a `Delta`: the root of the changed state, the nodes to store that weren't stored at their paths, and the hashes of
 //! those that were and aren't any more. It fetches the stored nodes on the way to the keys, and those at whose paths the changed
 //! trie has no node, and no others. What it knows it keeps as one flat list in the order of keys, keys with their values and
-//! stubs of nodes that it hasn't fetched; on that list the changes are carried out, and over it the new nodes are made.
+//! stubs of nodes that it hasn't fetched; on that list the changes are carried out, and over it the new nodes are made. Stubs
+//! that hang below one node off the way to all keys stay together in it.
 //!
 //! The laws say that these nodes are enough to name what is dropped, and what stays whole beside them: each stored node that
 //! isn't fetched is stored afterwards too; a node that is put is on the way to a changed key, or where none hung before; and

@@ -1,13 +1,19 @@
-ghost use Rattle.std.specs.Prelude.{◌≡◌, ◌+◌, ◌<◌, ◌≤◌, [], ◌++◌, length, All, IfOk, IfSome, reverse, vec_len, vec_capacity};
+ghost use Rattle.std.specs.Prelude.{◌≡◌, ◌+◌, ◌<◌, ◌≤◌, ℕ, List, false, slice_index_or, [], ◌∷◌, ◌++◌, length, All, IfOk, IfSome, reverse, vec_len, vec_capacity};
+ghost use Rattle.std.specs.Cmp.Lexicographic.{slice_cmp};
 ghost use Rattle.std.specs.List.{AllByRecursion};
+ghost use Rattle.std.specs.Ordering.{nat_cmp};
+ghost use Rattle.std.specs.declared.cmp.Ordering.TheVariants.{Less};
 ghost use Rattle.sdb_base.specs.Nibbles.{nibbles_of};
 ghost use Rattle.trie_model.specs.Limits.{ChangesAreWithin, most_in_key, most_in_value};
 ghost use Rattle.trie_change.specs.Changing.{IsLimitedSetting, settings_of};
+ghost use Rattle.trie_change.specs.Frontier.{item_path};
+ghost use Rattle.trie_change.specs.Item.{Item};
 ghost use Rattle.trie_change.specs.inner.InOrder.{IsRising, begins_one, set_pairs};
 ghost use Rattle.trie_change.specs.inner.LastSet.{set_all};
 ghost use Rattle.trie_change.specs.inner.Merged.{HasBytes, IsBelowKey, IsMerged, IsMovedDown, set_item};
+ghost use Rattle.trie_change.specs.inner.Pieces.{IsAside, IsBesideKey, all_items, back_items, piece_items};
 
-use crate::frontier::{Entry, Item, Path};
+use crate::frontier::{Entry, Path, Piece};
 use crate::in_order::path_of;
 use sdb_base::{Bytes, Change, Changes, OutOfMemory};
 use smallvec::SmallVec;
@@ -106,42 +112,103 @@ pub(crate) fn begins_a_key(settings: &[Setting], path: &[u8]) -> bool
     settings[first].path.as_slice().starts_with(path)
 }
 
-// Moves the items above a key, and drops one of the key itself.
-fn move_above(found: &mut Vec<Item>, key: &[u8], later: &mut Vec<Item>)
+/// The nibbles with which keys that are set go on after a path.
+pub(crate) fn nibbles_set(settings: &[Setting], end: &[u8]) -> [bool; 16]
+    ensures { (n : ℕ) → IsRising settings.now → n < 16 → slice_index_or result n false ≡ begins_one settings.now (end.now ++ n ∷ []) }
+{
+    let mut set = [false; 16];
+    let first = settings.partition_point(|setting| setting.path.as_slice().cmp(end).is_lt());
+    for setting in &settings[first..] {
+        let path = setting.path.as_slice();
+        if !path.starts_with(end) {
+            return set;
+        }
+        if let Some(nibble) = path.get(end.len()) {
+            if *nibble < 16 {
+                set[*nibble as usize] = true;
+            }
+        }
+    }
+    set
+}
+
+// How a path with one nibble more stands to a key.
+fn child_order(end: &[u8], nibble: u8, key: &[u8]) -> Ordering
+    ensures { result ≡ slice_cmp nat_cmp (end.now ++ nibble ∷ []) key.now }
+{
+    if key.len() > end.len() && key.starts_with(end) {
+        match nibble.cmp(&key[end.len()]) {
+            Ordering::Equal => {
+                if key.len() == end.len() + 1 {
+                    Ordering::Equal
+                } else {
+                    Ordering::Less
+                }
+            }
+            other => other,
+        }
+    } else {
+        match end.cmp(key) {
+            Ordering::Equal => Ordering::Greater,
+            other => other,
+        }
+    }
+}
+
+// How a piece stands to a key; of siblings the first one, and so all of them, between which there is no key that is set.
+fn order(piece: &Piece, key: &[u8]) -> Ordering
+    ensures all { IsBesideKey key.now piece.now
+        → AllByRecursion (λ (i : Item). slice_cmp nat_cmp (item_path i) key.now ≡ result) (piece_items piece.now) }
+    ensures some { result ≡ Less → piece_items piece.now ≡ [] → ⊥ }
+{
+    match piece {
+        Piece::Siblings(siblings) => match siblings.nodes.as_slice().first() {
+            Some(first) => child_order(siblings.end.as_slice(), first.nibble, key),
+            None => Ordering::Greater,
+        },
+        one => path_of(one).cmp(key),
+    }
+}
+
+// Moves the pieces above a key, and drops one of the key itself.
+fn move_above(found: &mut Vec<Piece>, key: &[u8], later: &mut Vec<Piece>)
     requires { vec_len later.old + vec_len found.old ≤ vec_capacity later.old }
-    ensures moved { IsMovedDown key.now found.old.items later.old.items found.new.items later.new.items }
-    ensures below { (s : Setting) → s.path.items ≡ key.now → IsBelowKey s (reverse found.new.items) }
+    ensures moved { AllByRecursion (IsBesideKey key.now) found.old.items
+        → IsMovedDown key.now (all_items found.old.items) (back_items later.old.items) (all_items found.new.items) (back_items later.new.items) }
+    ensures below { AllByRecursion (IsBesideKey key.now) found.old.items
+        → (s : Setting) → s.path.items ≡ key.now → IsBelowKey s (reverse (all_items found.new.items)) }
+    ensures apart { (settings : List Setting) → AllByRecursion (IsAside settings) found.old.items → AllByRecursion (IsAside settings) found.new.items }
     ensures room { vec_len later.new + vec_len found.new ≤ vec_len later.old + vec_len found.old }
     ensures capacity { vec_capacity later.new ≡ vec_capacity later.old }
     ensures found_capacity { vec_capacity found.new ≡ vec_capacity found.old }
 {
-    while let Some(item) = found.pop() {
-        match path_of(&item).cmp(key) {
+    while let Some(piece) = found.pop() {
+        match order(&piece, key) {
             Ordering::Less => {
-                found.push_reserved(item);
+                found.push_reserved(piece);
                 return;
             }
             Ordering::Equal => {}
-            Ordering::Greater => later.push_reserved(item),
+            Ordering::Greater => later.push_reserved(piece),
         }
     }
 }
 
 // Adds what a key is set to.
-fn put_setting(setting: Setting, later: &mut Vec<Item>)
+fn put_setting(setting: Setting, later: &mut Vec<Piece>)
     requires { vec_len later.old + 1 ≤ vec_capacity later.old }
-    ensures items { later.new.items ≡ later.old.items ++ set_item setting setting.value }
+    ensures items { back_items later.new.items ≡ back_items later.old.items ++ set_item setting setting.value }
     ensures room { vec_len later.new ≤ vec_len later.old + 1 }
     ensures capacity { vec_capacity later.new ≡ vec_capacity later.old }
 {
     let Setting { path, value } = setting;
     if let Some(value) = value {
-        later.push_reserved(Item::Entry(Entry { path, value }));
+        later.push_reserved(Piece::Entry(Entry { path, value }));
     }
 }
 
-/// Moves all items, the last first.
-pub(crate) fn move_all(found: &mut Vec<Item>, later: &mut Vec<Item>)
+/// Moves all pieces, the last first.
+pub(crate) fn move_all(found: &mut Vec<Piece>, later: &mut Vec<Piece>)
     requires { vec_len later.old + vec_len found.old ≤ vec_capacity later.old }
     ensures items { later.new.items ≡ later.old.items ++ reverse found.old.items }
     ensures len { vec_len later.new ≡ vec_len later.old + vec_len found.old }
@@ -149,16 +216,18 @@ pub(crate) fn move_all(found: &mut Vec<Item>, later: &mut Vec<Item>)
     ensures capacity { vec_capacity later.new ≡ vec_capacity later.old }
     ensures found_capacity { vec_capacity found.new ≡ vec_capacity found.old }
 {
-    while let Some(item) = found.pop() {
-        later.push_reserved(item);
+    while let Some(piece) = found.pop() {
+        later.push_reserved(piece);
     }
 }
 
-/// Carries out what is set on rising items. What comes of them goes to `later`, the last first.
-pub(crate) fn carry_out(settings: &mut Vec<Setting>, found: &mut Vec<Item>, later: &mut Vec<Item>)
+/// Carries out what is set on rising pieces, of which siblings are apart from it. What comes of them goes to `later`, the last
+/// first.
+pub(crate) fn carry_out(settings: &mut Vec<Setting>, found: &mut Vec<Piece>, later: &mut Vec<Piece>)
     requires room { vec_len settings.old + vec_len found.old ≤ vec_capacity later.old }
     requires none { later.old.items ≡ [] }
-    ensures merged { IsMerged (reverse found.old.items) (reverse settings.old.items) later.new.items }
+    ensures merged { AllByRecursion (IsAside settings.old.items) found.old.items
+        → IsMerged (reverse (all_items found.old.items)) (reverse settings.old.items) (back_items later.new.items) }
     ensures settings { settings.new.items ≡ [] }
     ensures found { found.new.items ≡ [] }
     ensures room { vec_len found.new + vec_len later.new ≤ vec_len settings.old + vec_len found.old }

@@ -12,8 +12,8 @@ use Rattle.trie_change.specs.Frontier.{IsHanging, IsItem, is_under, path_node_at
 use Rattle.trie_change.specs.declared.build.Made.{Made}
 use Rattle.trie_change.specs.declared.build.Made.TheVariants as made
 use Rattle.trie_change.specs.declared.diff.Diff.{Diff}
-use Rattle.trie_change.specs.declared.frontier.Item.{Item}
-use Rattle.trie_change.specs.declared.frontier.Item.TheVariants as item
+use Rattle.trie_change.specs.Item.{Item}
+use Rattle.trie_change.specs.Item as item
 use Rattle.trie_change.specs.inner.Diffs.{Comparison, IsComparison, after_nodes, most_in_node}
 
 -- ---- items in their order

@@ -7,8 +7,8 @@ use Rattle.trie_codec.specs.Reading.{node_of_bytes}
 use Rattle.trie_codec.specs.declared.fault.CodecFault.{CodecFault}
 use Rattle.trie_codec.specs.declared.node_ref.ChildRef.{ChildRef}
 use Rattle.trie_codec.specs.declared.node_ref.ChildRef.TheVariants as child
-use Rattle.trie_change.specs.declared.frontier.Item.{Item}
-use Rattle.trie_change.specs.declared.frontier.Item.TheVariants as item
+use Rattle.trie_change.specs.Item.{Item}
+use Rattle.trie_change.specs.Item as item
 
 -- a key with its value, or a stored node by its hash and its path
 pub data Known : Type 0 where

@@ -1,5 +1,5 @@
 -- Nodes that were fed and items that are known, from which the changed trie can be made.
-use Rattle.std.specs.Prelude.{◌≡◌, ◌↔◌, true, not, ℕ, List, map, filter, All, Contains, IsPermutation}
+use Rattle.std.specs.Prelude.{◌≡◌, ◌↔◌, true, not, List, map, filter, All, Contains, IsPermutation}
 use Rattle.std.specs.FinMap.{entries}
 use Rattle.std.specs.List.{AllByRecursion}
 use Rattle.sdb_blake2.specs.Blake2b.{H}
@@ -10,7 +10,7 @@ use Rattle.trie_root.specs.Suffixes.{IsEntry}
 use Rattle.trie_read.specs.Paths.{RiseByPath}
 use Rattle.trie_change.specs.Frontier.{IsFrontier, IsHanging, is_under}
 use Rattle.trie_change.specs.declared.frontier.Fed.{Fed}
-use Rattle.trie_change.specs.declared.frontier.Item.{Item}
+use Rattle.trie_change.specs.Item.{Item}
 
 -- the nodes that were fed, by their paths
 abbrev pub fed_nodes : List Fed → List PathNode

@@ -1,10 +1,7 @@
 -- How far a job has come that changes a state.
-use Rattle.std.specs.Prelude.{◌≡◌, ◌+◌, ◌≤◌, vec_len, vec_capacity, true, false, is_some, ℕ, List, [], ◌∷◌, map, filter, All, IfSome, IsPermutation, Option, None}
-use Rattle.std.specs.Ordering.{nat_cmp}
-use Rattle.std.specs.Cmp.Lexicographic.{slice_cmp}
-use Rattle.std.specs.FinMap.{FinMap, empty, entries, insert}
+use Rattle.std.specs.Prelude.{◌≡◌, ◌+◌, ◌≤◌, vec_len, vec_capacity, true, false, is_some, ℕ, List, [], ◌∷◌, filter, All, IfSome, IsPermutation, Option, None}
+use Rattle.std.specs.FinMap.{entries}
 use Rattle.std.specs.List.{AllByRecursion, flat_map}
-use Rattle.sdb_base.specs.Nibbles.{nibbles_of}
 use Rattle.sdb_base.specs.declared.Change.{Change}
 use Rattle.sdb_blake2.specs.Blake2b.{H}
 use Rattle.trie_model.specs.Fetches.{for_change, is_changed}
@@ -16,11 +13,12 @@ use Rattle.trie_read.specs.Paths.{Hangs}
 use Rattle.trie_change.specs.ChangedKeys.{keys_in_changes}
 use Rattle.trie_change.specs.Frontier.{IsFrontier, IsHanging, is_under}
 use Rattle.trie_change.specs.inner.InOrder.{IsOff, RootIsAlone, begins_one, in_place, set_pairs, stubs_of}
+use Rattle.trie_change.specs.inner.Pieces.{all_items, back_items}
 use Rattle.trie_change.specs.inner.Settled.{fed_nodes}
 use Rattle.trie_change.specs.declared.change_job.ChangeJob.{ChangeJob}
 use Rattle.trie_change.specs.declared.frontier.Fed.{Fed}
-use Rattle.trie_change.specs.declared.frontier.Item.{Item}
-use Rattle.trie_change.specs.declared.frontier.Item.TheVariants as item
+use Rattle.trie_change.specs.Item.{Item}
+use Rattle.trie_change.specs.Item as item
 use Rattle.trie_change.specs.declared.frontier.Stub.{Stub}
 use Rattle.trie_change.specs.declared.settings.Setting.{Setting}
 use Rattle.trie_change.specs.Settings.{settings_of}
@@ -61,7 +59,7 @@ pub record JobParts : Type 0 where
   pub later : List Item
 
 abbrev pub job_parts : ChangeJob → JobParts
-job_parts j = record { settings = j.settings.items; fed = j.fed.items; wanted = j.wanted; found = j.found.items; later = j.later.items }
+job_parts j = record { settings = j.settings.items; fed = j.fed.items; wanted = j.wanted; found = all_items j.found.items; later = back_items j.later.items }
 
 abbrev pub items_in : JobParts → List Item
 items_in j = in_place j.found j.wanted j.later
@@ -109,6 +107,6 @@ pub record IsFedSoFar (j : ChangeJob) (m : State) (changes : List Change) (todo 
 -- the items are the keys that are set, with their values
 pub record IsCreated (j : ChangeJob) (changes : List Change) : Type 0 where
   pub after : All IsEntry (entries (apply no_keys changes))
-  pub frontier : IsFrontier (suffixes_of (apply no_keys changes)) j.found.items
-  pub no_stubs : stubs_of j.found.items ≡ []
+  pub frontier : IsFrontier (suffixes_of (apply no_keys changes)) (all_items j.found.items)
+  pub no_stubs : stubs_of (all_items j.found.items) ≡ []
   pub none_fed : j.fed.items ≡ []

@@ -1,129 +1,187 @@
-use Rattle.std.proofs.Common.{rules, ◌≡◌, ℕ, false, ◌+◌, ◌-◌, ◌≤◌, List, [], ◌∷◌, ◌++◌, Option, length, get_or, drop, All, Some, None, refl, sym, ap, subst, ◌∙◌, arith, length-append, length-take}
-use Rattle.std.specs.Prelude.{◌==◌, IfSome, filter}
-use Rattle.std.specs.List.{flat_map}
+use Rattle.std.proofs.Common.{rules, ◌≡◌, ℕ, false, ◌+◌, ◌-◌, ◌≤◌, List, [], ◌∷◌, ◌++◌, Option, length, get_or, take, drop, All, Some, None, refl, sym, ap, subst, ◌∙◌, arith, take-append-drop}
+use Rattle.std.specs.Prelude.{◌==◌, filter}
 use Rattle.std.proofs.lemmas.List.{take_rest}
 use Rattle.std.proofs.lemmas.Result.{on_ok_weaker}
-use Rattle.std.proofs.lemmas.List.Elements.{All-push, All-same, All-take}
 use Rattle.sdb_base.specs.declared.node.NodeHash.{NodeHash}
 use Rattle.trie_model.specs.Nodes.{PathNode}
-use Rattle.trie_model.specs.Trie.{below, child_value, common, node_of_all}
-use Rattle.trie_root.proofs.ReadOffNibbles.{from}
-use Rattle.trie_change.specs.Frontier.{IsLimited, item_path}
-use Rattle.trie_change.specs.declared.frontier.Item.{Item}
-use Rattle.trie_change.specs.inner.Built.{IsShortValue, ItemGroup, hash_here, is_made, made_of_group, node_of_group, nodes_at, nodes_from}
-use Rattle.trie_change.specs.inner.Diffs.{Comparison, IsComparison, after_nodes}
-use Rattle.trie_change.proofs.ChildRuns.{Coming, all_come, nodes_at_nibble, none_come, one_comes, run_group}
-use Rattle.trie_change.proofs.ItemsParted.{shared_by}
-use Rattle.trie_change.proofs.ChildValues.{any_there, group_some, longer_path, path_taken, value_there}
-use Rattle.trie_change.proofs.KeptStubs.{kept_made}
-use Rattle.trie_change.proofs.MadeGroups.{away_from, end_within, group_made}
-use Rattle.trie_change.proofs.SpellingLength.{short_path}
+use Rattle.trie_model.specs.Trie.{below, common}
+use Rattle.trie_change.specs.Frontier.{IsLimited}
+use Rattle.trie_change.specs.declared.frontier.Piece.{Piece}
+use Rattle.trie_change.specs.declared.frontier.Sibling.{Sibling}
+use Rattle.trie_change.specs.inner.Built.{is_made, made_of_group, node_of_group, nodes_from}
+use Rattle.trie_change.specs.inner.Diffs.{IsComparison, after_nodes}
+use Rattle.trie_change.specs.inner.Pieces.{all_items, piece_hash, piece_path}
+use Rattle.trie_change.proofs.ChildValues.{any_there, group_some, longer_path, value_there}
+use Rattle.trie_change.proofs.MadeGroups.{end_within}
+use Rattle.trie_change.proofs.PieceGroups.{piece_kept, piece_path_taken, pieces_made}
+use Rattle.trie_change.proofs.PieceItems.{some_items}
+use Rattle.trie_change.proofs.PieceLimits.{limited_head, limited_parts, limited_path, limited_value}
+use Rattle.trie_change.proofs.PieceRanks.{long_run}
+use Rattle.trie_change.proofs.RunsOfItems.{IsPushed}
+use Rattle.trie_change.proofs.PieceRuns.{all_have_come, are_here, are_left, none_are_coming}
+use Rattle.trie_change.proofs.PieceSteps.{child_comes, hash_comes, none_comes}
 use Rattle.trie_change.proofs.build.+nodes.Goals as goal
+use Rattle.trie_change.proofs.build.+nodes.Goals.{children_of-in-Some+in_ok-push_hash-in-Some, children_of-in-Some-2+in_ok-push_none-in-Some-2, children_of-in-None+in_ok-push_child-in-None}
 
-some_items : (items : List Item) → false ≡ (length items == 0) → 1 ≤ length items
-some_items [] e = absurd cc
-some_items (i ∷ is) e = omega arith
+some_pieces : (pieces : List Piece) → false ≡ (length pieces == 0) → 1 ≤ length pieces
+some_pieces [] e = absurd cc
+some_pieces (p ∷ ps) e = omega arith
 
 pub push_child-returns-clause-child : goal.push_child-returns-clause-child
 push_child-returns-clause-child t c = λ g k is.
     let at = c.args.at in
-    let items = c.args.items.now in
-    let some : 1 ≤ length items = some_items items c.if-is_empty.ensures in
+    let pieces = c.args.items.now in
+    let first = c.index-items-0.result in
+    let some : 1 ≤ length pieces = some_pieces pieces c.if-is_empty.ensures in
+    let some_there : 1 ≤ length (all_items pieces) = some_items pieces some in
+    let long : at ≤ length (piece_path first) = subst (λ (p : Piece). at ≤ length (piece_path p)) (sym c.index-items-0.is) (c.requires.long 0 first (omega arith)) in
     let n = node_of_group g in
-    let there : below g.path g.suffixes ≡ [] → ⊥ = group_some at items g c.requires.at some in
-    let path : n.path ≡ c.path_before.result.now = path_taken at items g c.index-items-0.result some c.index-items-0.is ∙ sym c.path_before.ensures in
+    let there : below g.path g.suffixes ≡ [] → ⊥ = group_some at (all_items pieces) g c.requires.at some_there in
+    let path : n.path ≡ c.path_before.result.now = piece_path_taken at pieces g first some c.index-items-0.is long ∙ sym c.path_before.ensures in
     on_ok_weaker c.push_value.result
     (λ out. (
       out.0 ∙ ap (λ (o : Option (List ℕ)). c.args.children.now.items ++ o ∷ []) (sym (value_there (below g.path g.suffixes) there)),
       subst (λ (ns : List PathNode). IsComparison c.push_value.new.diff (after_nodes k (filter (is_made g.under) ns)))
           (sym (any_there (nodes_from g.path) (below g.path g.suffixes) there)) out.1,
     ))
-    (c.push_value.ensures.value n (made_of_group g) k path (longer_path at items g c.requires.at) (c.in_ok-made.ensures.made g k is))
+    (c.push_value.ensures.value n (made_of_group g) k path (longer_path at (all_items pieces) g c.requires.at) (c.in_ok-made.ensures.made g k is))
 
 pub children_of-loop-count-init : goal.children_of-loop-count-init
-children_of-loop-count-init t c = record {
-  short = c.requires.short;
-  so_many = ap length c.in_ok-children.ensures.items;
-  fits = All-same (λ o. IfSome o IsShortValue) _ _ c.in_ok-children.ensures.items (λ i d h. absurd (omega arith));
-  limited = c.requires.limited;
-  fewer = omega arith;
-  coming = λ b k is.
-      subst (λ cs. Coming b k 0 c.args.items.now cs c.args.diff.now) (sym c.in_ok-children.ensures.items) (none_come b k c.args.diff.now c.requires.limited is);
-}
+children_of-loop-count-init t c =
+    none_are_coming c.args.at c.args.items.now c.args.diff.now c.in_ok-children.children.items c.in_ok-children.ensures.items c.requires.short c.requires.limited
+
+nothing_left : (nodes : List Sibling) → length nodes ≡ 0 → nodes ≡ []
+nothing_left [] e = refl
+nothing_left (s ∷ nodes) e = absurd (omega (arith, e))
 
 pub children_of-loop-count-preserved : goal.children_of-loop-count-preserved
 children_of-loop-count-preserved t c =
-    let start = c.run_start-start.result in
-    let rest = c.loop-count.rest.now in
-    let run = c.run_start-start.ensures in
-    record {
-      short = c.in_ok-push_child.ensures.still_short;
-      so_many = omega (arith, c.in_ok-push_child.ensures.one, c.loop-count.invariant.so_many);
-      fits = c.in_ok-push_child.ensures.fits c.loop-count.invariant.fits;
-      limited = All-take IsLimited start rest c.loop-count.invariant.limited;
-      fewer = simp length-take (omega (arith, c.loop-count.invariant.fewer));
-      coming = λ b k is.
-          let so_far = c.loop-count.invariant.coming b k is in
-          let group = run_group b k c.loop-count.count rest c.loop-count.children.items c.loop-count.diff so_far c.loop-count-test.true start run.fits run.run run.other (c.args.at + 1) refl in
-          let each = subst (λ (is : List Item). (g : ItemGroup (c.args.at + 1) is) (k : Comparison) → IsComparison c.loop-count.diff k
-          → (c.push_child.new.children.items ≡ c.loop-count.children.items ++ child_value node_of_all (below g.path g.suffixes) ∷ [])
-          × IsComparison c.push_child.new.diff (after_nodes k (filter (is_made g.under) (nodes_at g.suffixes g.path))))
-          (take_rest rest start) c.in_ok-push_child.ensures.child in
-          let child = each group (after_nodes k (filter (is_made b.group.under) (flat_map (nodes_at_nibble b) (from (16 - c.loop-count.count) c.loop-count.count)))) so_far.come in
-          one_comes b k c.loop-count.count rest c.loop-count.children.items c.loop-count.diff so_far c.loop-count-test.true start run.fits run.run run.other
-          (child_value node_of_all (below group.path group.suffixes)) c.push_child.new.children.items c.push_child.new.diff child.0 refl child.1;
-    }
+    let rest = c.left_here.result.0.now in
+    let nodes = c.left_here.result.1.now in
+    let children = c.loop-count.children.items in
+    let d = c.loop-count.diff in
+    let left = are_left c.args.at c.args.items.now c.args.diff.now c.loop-count.count c.loop-count.rest.now c.loop-count.nodes.now children d c.loop-count.invariant rest nodes
+    c.left_here.ensures.same c.left_here.ensures.front in
+    elim c.match-split_last.branch [
+      | children_of-in-Some+in_ok-push_hash-in-Some w ↦
+          let s = w.in-Some.last.now in
+          are_here c.args.at c.args.items.now c.args.diff.now (c.loop-count.count + 1) rest w.in-Some.others.now w.push_hash.new.children.items d
+          (hash_comes c.args.at c.args.items.now c.args.diff.now c.loop-count.count rest nodes children d left w.in-Some.others.now s w.push_hash.new.children.items
+          c.loop-count-test.true w.in-Some.ensures.cases.0 w.if-last-count.true w.push_hash.ensures.short w.in_ok-push_hash-in-Some.ensures.pushed)
+          c.match-split_last.rest.now c.match-split_last.nodes.now c.match-split_last.children.items c.match-split_last.diff
+          (ap (λ r. r.now) (sym w.rest-is)) (ap (λ r. r.now) (sym w.nodes-is)) (ap (λ v. v.items) (sym w.children-is)) (sym w.diff-is)
+      | children_of-in-Some-2+in_ok-push_none-in-Some-2 w ↦
+          let s = w.in-Some.last.now in
+          are_here c.args.at c.args.items.now c.args.diff.now (c.loop-count.count + 1) rest nodes w.push_none.new.children.items d
+          (none_comes c.args.at c.args.items.now c.args.diff.now c.loop-count.count rest nodes children d left w.in-Some.others.now s w.push_none.new.children.items
+          c.loop-count-test.true w.in-Some.ensures.cases.0 w.if-last-count.false w.in_ok-push_none-in-Some-2.ensures)
+          c.match-split_last.rest.now c.match-split_last.nodes.now c.match-split_last.children.items c.match-split_last.diff
+          (ap (λ r. r.now) (sym w.rest-is)) (ap (λ r. r.now) (sym w.nodes-is)) (ap (λ v. v.items) (sym w.children-is)) (sym w.diff-is)
+      | children_of-in-None+in_ok-push_child-in-None w ↦
+          let start = w.run_start-start.result in
+          let out = w.in_ok-push_child-in-None.ensures in
+          let run = w.run_start-start.ensures in
+          are_here c.args.at c.args.items.now c.args.diff.now (c.loop-count.count + 1) (take start rest) nodes w.push_child.new.children.items w.push_child.new.diff
+          (child_comes c.args.at c.args.items.now c.args.diff.now c.loop-count.count rest nodes children d left start w.push_child.new.children.items w.push_child.new.diff
+          c.loop-count-test.true (nothing_left nodes w.in-None.ensures.cases) run.fits run.run run.other
+          (λ p before whole. c.left_here.ensures.none p before (nothing_left nodes w.in-None.ensures.cases) whole)
+          out.still_short out.one (out.fits left.fits)
+          (subst (λ (ps : List Piece). IsPushed (c.args.at + 1) (all_items ps) children w.push_child.new.children.items d w.push_child.new.diff) (take_rest rest start) out.child))
+          c.match-split_last.rest.now c.match-split_last.nodes.now c.match-split_last.children.items c.match-split_last.diff
+          (ap (λ r. r.now) (sym w.rest-is)) (ap (λ r. r.now) (sym w.nodes-is)) (ap (λ v. v.items) (sym w.children-is)) (sym w.diff-is)
+    ]
+
+pub children_of-push_child-requires : goal.children_of-push_child-requires
+children_of-push_child-requires t c =
+    let rest = c.left_here.result.0.now in
+    let left = are_left c.args.at c.args.items.now c.args.diff.now c.loop-count.count c.loop-count.rest.now c.loop-count.nodes.now c.loop-count.children.items c.loop-count.diff
+    c.loop-count.invariant rest c.left_here.result.1.now c.left_here.ensures.same c.left_here.ensures.front in
+    let start = c.run_start-start.result in (
+      search rules,
+      (
+        omega arith,
+        (
+          subst (λ (ps : List Piece). All IsLimited (all_items ps)) (sym (take_rest rest start)) (limited_parts (take start rest) (drop start rest) rest (take-append-drop start rest) left.limited).1,
+          (
+            subst (λ (ps : List Piece). All (λ (p : Piece). c.args.at + 1 ≤ length (piece_path p)) ps) (sym (take_rest rest start)) (long_run c.args.at (15 - c.loop-count.count) (drop start rest) c.run_start-start.ensures.run),
+            left.short,
+          ),
+        ),
+      ),
+    )
 
 pub children_of-returns-clause-children : goal.children_of-returns-clause-children
 children_of-returns-clause-children t c = λ b k is.
-    let all = all_come b k c.loop-count.count c.loop-count.rest.now c.loop-count.children.items c.loop-count.diff (omega arith) (c.loop-count.invariant.coming b k is) in
+    let all = all_have_come c.args.at c.args.items.now c.args.diff.now c.loop-count.count c.loop-count.rest.now c.loop-count.nodes.now c.loop-count.children.items c.loop-count.diff
+    c.loop-count.invariant (omega arith) b k is in
     (c.reverse.ensures.items ∙ all.0, all.1)
 
 pub made_of-returns-in-Some-clause-made : goal.made_of-returns-in-Some-clause-made
 made_of-returns-in-Some-clause-made t c = λ g k is.
-    kept_made c.args.at c.args.items.now g c.index-items-0.result c.in-Some.hash k c.args.diff.now c.requires.some c.index-items-0.is c.in-Some.ensures is
+    let first = c.index-items-0.result in
+    let long : c.args.at ≤ length (piece_path first) =
+    subst (λ (p : Piece). c.args.at ≤ length (piece_path p)) (sym c.index-items-0.is) (c.requires.long 0 first (omega (arith, c.requires.some))) in
+    piece_kept c.args.at c.args.items.now g first c.in-Some.hash k c.args.diff.now c.requires.some c.index-items-0.is long c.in-Some.ensures is
 
 -- what the first and the last share ends within the first
-ends_within : (at n : ℕ) (items : List Item) (d : Item) → 1 ≤ length items → All (λ i. at ≤ length (item_path i)) items
-    → n ≡ length (common (drop at (item_path (get_or items 0 d))) (drop at (item_path (get_or items (length items - 1) d))))
-    → at + n ≤ length (item_path (get_or items 0 d))
-ends_within at n items d some long e = omega (arith, e, end_within at (item_path (get_or items 0 d)) (item_path (get_or items (length items - 1) d)) (long 0 d (omega arith)))
+ends_within : (at n : ℕ) (pieces : List Piece) (d : Piece) → 1 ≤ length pieces → All (λ (p : Piece). at ≤ length (piece_path p)) pieces
+    → n ≡ length (common (drop at (piece_path (get_or pieces 0 d))) (drop at (piece_path (get_or pieces (length pieces - 1) d))))
+    → at + n ≤ length (piece_path (get_or pieces 0 d))
+ends_within at n pieces d some long e =
+    omega (arith, e, end_within at (piece_path (get_or pieces 0 d)) (piece_path (get_or pieces (length pieces - 1) d)) (long 0 d (omega arith)))
 
-first_short : (items : List Item) (d : Item) → 1 ≤ length items → All IsLimited items → length (item_path (get_or items 0 d)) ≤ 2048
-first_short items d some all = short_path (get_or items 0 d) (all 0 d (omega arith))
+first_short : (pieces : List Piece) (d : Piece) → 1 ≤ length pieces → All IsLimited (all_items pieces) → length (piece_path (get_or pieces 0 d)) ≤ 2048
+first_short [] d some all = absurd (omega arith)
+first_short (p ∷ ps) d some all = (limited_path p (limited_head (p ∷ ps) p some refl all)).short
 
 pub made_of-overflow_add-end : goal.made_of-overflow_add-end
 made_of-overflow_add-end t c =
     let d = c.index-items-0.result in
-    let items = c.args.items.now in
-    omega (arith, ends_within c.args.at c.shared_of_ends.result items d c.requires.some c.requires.long (c.shared_of_ends.ensures d), first_short items d c.requires.some c.requires.limited)
+    let pieces = c.args.items.now in
+    omega (arith, ends_within c.args.at c.shared_of_ends.result pieces d c.requires.some c.requires.long (c.shared_of_ends.ensures d), first_short pieces d c.requires.some c.requires.limited)
 
 pub made_of-children_of-requires : goal.made_of-children_of-requires
 made_of-children_of-requires t c =
     let d = c.index-items-0.result in
-    let items = c.args.items.now in (
+    let pieces = c.args.items.now in (
       search rules,
       (
-        omega (arith, ends_within c.args.at c.shared_of_ends.result items d c.requires.some c.requires.long (c.shared_of_ends.ensures d), first_short items d c.requires.some c.requires.limited),
+        omega (arith, ends_within c.args.at c.shared_of_ends.result pieces d c.requires.some c.requires.long (c.shared_of_ends.ensures d), first_short pieces d c.requires.some c.requires.limited),
         (c.requires.limited, c.requires.short),
       ),
     )
 
+pub made_of-spell_node-requires-clause-limited : goal.made_of-spell_node-requires-clause-limited
+made_of-spell_node-requires-clause-limited t c =
+    limited_path c.index-items-0-2.result (limited_head c.args.items.now c.index-items-0-2.result c.requires.some c.index-items-0-2.is c.requires.limited)
+
+pub made_of-spell_node-requires-clause-value : goal.made_of-spell_node-requires-clause-value
+made_of-spell_node-requires-clause-value t c =
+    limited_value (c.args.at + c.shared_of_ends.result) c.index-items-0-2.result
+    (limited_head c.args.items.now c.index-items-0-2.result c.requires.some c.index-items-0-2.is c.requires.limited)
+
 pub made_of-spell_node-requires-clause-end : goal.made_of-spell_node-requires-clause-end
 made_of-spell_node-requires-clause-end t c =
     let d = c.index-items-0-2.result in
-    subst (λ (i : Item). c.args.at + c.shared_of_ends.result ≤ length (item_path i)) (sym c.index-items-0-2.is)
+    subst (λ (p : Piece). c.args.at + c.shared_of_ends.result ≤ length (piece_path p)) (sym c.index-items-0-2.is)
     (ends_within c.args.at c.shared_of_ends.result c.args.items.now d c.requires.some c.requires.long (c.shared_of_ends.ensures d))
+
+same_head : (pieces : List Piece) (p q : Piece) → 1 ≤ length pieces → p ≡ get_or pieces 0 p → q ≡ get_or pieces 0 q → p ≡ q
+same_head [] p q some e f = absurd (omega arith)
+same_head (x ∷ xs) p q some e f = e ∙ sym f
 
 pub made_of-returns-clause-made : goal.made_of-returns-clause-made
 made_of-returns-clause-made t c = λ g k is.
     let at = c.args.at in
-    let items = c.args.items.now in
+    let pieces = c.args.items.now in
     let first = c.index-items-0-2.result in
-    let none : (h : NodeHash) → Some h ≡ hash_here at c.index-items-0.result → ⊥ = λ h e. let both : None ≡ Some h = c.in_default.ensures ∙ sym e in cc in
-    let shared : c.shared_of_ends.result ≡ length (shared_by at first (get_or items (length items - 1) first)) =
-    c.shared_of_ends.ensures first ∙ ap (λ (i : Item). length (shared_by at i (get_or items (length items - 1) first))) (sym c.index-items-0-2.is) in
-    group_made at (at + c.shared_of_ends.result) items g first c.in_ok-bytes.bytes c.as_slice.result.now k c.children_of.new.diff c.requires.some c.index-items-0-2.is
-    (away_from at g.path items c.index-items-0.result c.index-items-0.is g.place none) (ap (λ (n : ℕ). at + n) shared)
+    let none : (h : NodeHash) → Some h ≡ piece_hash at first → ⊥ = λ h e.
+    let both : None ≡ Some h =
+    c.in_default.ensures ∙ ap (piece_hash at) (same_head pieces c.index-items-0.result first c.requires.some c.index-items-0.is c.index-items-0-2.is) ∙ sym e in cc in
+    let shared : c.shared_of_ends.result ≡ length (common (drop at (piece_path first)) (drop at (piece_path (get_or pieces (length pieces - 1) first)))) =
+    c.shared_of_ends.ensures first
+    ∙ ap (λ (p : Piece). length (common (drop at (piece_path p)) (drop at (piece_path (get_or pieces (length pieces - 1) first))))) (sym c.index-items-0-2.is) in
+    pieces_made at (at + c.shared_of_ends.result) pieces g first c.in_ok-bytes.bytes c.as_slice.result.now k c.children_of.new.diff c.requires.some c.index-items-0-2.is
+    c.requires.long none (ap (λ (n : ℕ). at + n) shared)
     (λ b. let out = c.in_ok-children.ensures.children b k is in (c.as_slice.ensures.value ∙ out.0, out.1))
     c.in_ok-bytes.ensures.spelled

@@ -1,4 +1,4 @@
-use Rattle.std.proofs.Common.{◌≡◌, ◌≤◌, ◌<◌, ℕ, List, [], ◌∷◌, ◌++◌, Some, true, false, ap, length, subst, sym, ◌∙◌, arith}
+use Rattle.std.proofs.Common.{◌≤◌, ◌<◌, ℕ, List, [], ◌∷◌, ◌++◌, Some, true, false, ap, length, subst, sym, ◌∙◌, arith}
 use Rattle.std.proofs.lemmas.Result.{on_ok_weaker}
 use Rattle.sdb_blake2.specs.Blake2b.{H}
 use Rattle.trie_change.specs.inner.Built.{IsMade}
@@ -20,7 +20,7 @@ returns-in-Kept-clause-value c = λ n all k path below is.
     let made = subst (IsMade k n all c.args.diff.now) c.in-Kept.is is in
     on_ok_weaker c.push_hash.result
     (λ e. (e ∙ ap (λ (v : List ℕ). c.args.children.now.items ++ Some v ∷ []) (made.0 ∙ sym (value_hashed n.bytes (stored_long n below made.1))), made.2))
-    c.push_hash.ensures
+    c.push_hash.ensures.pushed
 
 pub returns-in_ok-hash-in-New-clause-value : goal.returns-in_ok-hash-in-New-clause-value
 returns-in_ok-hash-in-New-clause-value c = λ n all k path below is.
@@ -32,4 +32,4 @@ returns-in_ok-hash-in-New-clause-value c = λ n all k path below is.
       e ∙ ap (λ (v : List ℕ). c.args.children.now.items ++ Some v ∷ []) (out.0 ∙ ap H made.0 ∙ sym (value_hashed n.bytes long)),
       come_with k n all made.1 c.emit.new.self true (long_stored n long) made.2 out.1,
     ))
-    c.push_hash-in-New.ensures
+    c.push_hash-in-New.ensures.pushed

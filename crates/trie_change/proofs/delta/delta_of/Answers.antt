@@ -6,13 +6,14 @@ use Rattle.trie_change.specs.Deltas.{hash_of_node, hashed}
 use Rattle.trie_change.specs.Frontier.{is_under}
 use Rattle.trie_change.specs.inner.Built.{made_of_group}
 use Rattle.trie_change.specs.inner.Diffs.{HasItsHash, after_nodes, all_left}
+use Rattle.trie_change.specs.inner.Pieces.{all_items as known_items}
 use Rattle.trie_change.proofs.SettledItems.{all_items, drops_are, fed_rise, puts_are, root_is}
 use Rattle.trie_change.proofs.NodeEntries.{rise_by_path}
 use Rattle.trie_change.proofs.delta.delta_of.Goals as goal
 
 pub returns-clause-settled : goal.returns-clause-settled
 returns-clause-settled c = λ old m2 s.
-    let items = c.args.items.now in
+    let items = known_items c.args.items.now in
     let fed = c.args.fed.items in
     let first : List PathNode = filter (λ n. not (is_under items n)) old in
     let group = all_items old m2 fed items s in

@@ -1,4 +1,4 @@
-use Rattle.std.proofs.Common.{ℕ, ◌<◌, ◌∷◌, Option, Some, ap, subst, sym, ◌∙◌, arith}
+use Rattle.std.proofs.Common.{List, ℕ, ◌<◌, ◌∷◌, Option, Some, ap, subst, sym, ◌∙◌, arith}
 use Rattle.std.specs.Prelude.{IfSome}
 use Rattle.std.proofs.lemmas.List.Elements.{All-from_get_or}
 use Rattle.trie_codec.specs.NodeParts.{node_of_ref}
@@ -7,7 +7,11 @@ use Rattle.trie_model.specs.Node.{IsPartial}
 use Rattle.trie_read.specs.Depth.{is_bad_node}
 use Rattle.trie_read.proofs.OwnNodes.{not_refused}
 use Rattle.trie_change.specs.declared.frontier.Stub.{Stub}
+use Rattle.std.specs.List.{AllByRecursion}
+use Rattle.trie_change.specs.declared.settings.Setting.{Setting}
+use Rattle.trie_change.specs.inner.InOrder.{IsRising}
 use Rattle.trie_change.specs.inner.Known.{known_in}
+use Rattle.trie_change.specs.inner.Pieces.{IsAside, all_items, back_items}
 use Rattle.trie_change.specs.inner.Stages.{IsUnderWay}
 use Rattle.trie_change.proofs.KnownLimits.{what_it_has}
 use Rattle.trie_change.proofs.TakenStage.{never_bad, with_wanted}
@@ -17,24 +21,28 @@ pub returns-in_default-read_node-clause-sound : goal.returns-in_default-read_nod
 returns-in_default-read_node-clause-sound c = λ m changes n todo changing bytes.
     let j = c.args.self.now in
     let s : Stub = c.in-Some.wanted in
-    let way : IsUnderWay j.settings.items (with_wanted j.settings.items j.fed.items (Some s) j.found.items j.later.items) m changes (n ∷ todo) =
-    subst (λ (o : Option Stub). IsUnderWay j.settings.items (with_wanted j.settings.items j.fed.items o j.found.items j.later.items) m changes (n ∷ todo)) c.in-Some.is changing.stage.under_way in
+    let way : IsUnderWay j.settings.items (with_wanted j.settings.items j.fed.items (Some s) (all_items j.found.items) (back_items j.later.items)) m changes (n ∷ todo) =
+    subst (λ (o : Option Stub). IsUnderWay j.settings.items (with_wanted j.settings.items j.fed.items o (all_items j.found.items) (back_items j.later.items)) m changes (n ∷ todo)) c.in-Some.is changing.stage.under_way in
     absurd (not_refused (is_bad_node c.len.result c.args.bytes.now)
     (ap (λ (at : ℕ). is_bad_node at c.args.bytes.now) c.len.ensures.value
-    ∙ never_bad m changes changing.within j.fed.items j.found.items j.later.items s n todo j.settings.items j.settings.items c.args.bytes.now way bytes)
+    ∙ never_bad m changes changing.within j.fed.items (all_items j.found.items) (back_items j.later.items) s n todo j.settings.items j.settings.items c.args.bytes.now way bytes)
     c.in_default-read_node.ensures.good)
 
 pub take-requires-clause-limited : goal.take-requires-clause-limited
 take-requires-clause-limited c =
-    what_it_has c.len.result c.args.bytes.now c.in-Some.wanted.path.items (node_of_ref c.in-Some-read_node.node) c.in-Ok.items.items
+    what_it_has c.len.result c.args.bytes.now c.in-Some.wanted.path.items (node_of_ref c.in-Some-read_node.node) (all_items c.in-Ok.pieces.items)
     (All-from_get_or (λ b. b < 256) c.args.bytes.now 0 (λ k h. omega (arith, c.type_inv.bytes k)))
     c.in-Some-read_node.ensures.node c.in-Some-read_node.ensures.good c.len.ensures.value
     (subst (λ (o : Option Stub). IfSome o (λ (s : Stub). IsPartial s.path.items)) c.in-Some.is c.requires.limits.wanted)
-    (c.in-Ok.ensures ∙ ap (known_in 33 (node_of_ref c.in-Some-read_node.node)) c.as_slice.ensures)
+    (c.in-Ok.ensures.known ∙ ap (known_in 33 (node_of_ref c.in-Some-read_node.node)) c.as_slice-2.ensures)
 
 pub returns-clause-changed : goal.returns-clause-changed
 returns-clause-changed c = λ m changes n todo changing bytes.
     c.in-Ok-take.ensures.taken m changes n todo c.in-Some.wanted (node_of_ref c.in-Some-read_node.node) changing c.in-Some.is
     c.in-Ok-fed_of.ensures.path c.in-Ok-fed_of.ensures.hash (c.in-Ok-fed_of.ensures.bytes ∙ bytes)
     (ap node_of_bytes (sym bytes) ∙ c.in-Some-read_node.ensures.node)
-    (c.in-Ok.ensures ∙ ap (known_in 33 (node_of_ref c.in-Some-read_node.node)) c.as_slice.ensures)
+    (c.in-Ok.ensures.known ∙ ap (known_in 33 (node_of_ref c.in-Some-read_node.node)) c.as_slice-2.ensures)
+
+pub take-requires-clause-apart : goal.take-requires-clause-apart
+take-requires-clause-apart c =
+    subst (λ (ss : List Setting). IsRising ss → AllByRecursion (IsAside ss) c.in-Ok.pieces.items) c.as_slice.ensures.value c.in-Ok.ensures.apart c.requires.limits.rising

@@ -3,10 +3,12 @@ use Rattle.std.specs.List.{AllByRecursion}
 use Rattle.trie_root.proofs.ShapesBytes.{all_joined}
 use Rattle.trie_change.specs.Frontier.{IsLimited}
 use Rattle.trie_change.specs.declared.frontier.Fed.{Fed}
-use Rattle.trie_change.specs.declared.frontier.Item.{Item}
+use Rattle.trie_change.specs.declared.frontier.Piece.{Piece}
 use Rattle.trie_change.specs.declared.frontier.Stub.{Stub}
+use Rattle.trie_change.specs.inner.Pieces.{IsAside, all_items, back_items}
 use Rattle.trie_change.specs.inner.Stages.{IsFedSoFar, IsUnderWay}
 use Rattle.trie_change.proofs.CarriedOver.{all_reversed}
+use Rattle.trie_change.proofs.PieceMoves.{later_are}
 use Rattle.trie_change.proofs.TakenStage.{taken, wants_of, with_wanted}
 use Rattle.trie_change.proofs.change_job.ChangeJob.take.Goals as goal
 
@@ -27,26 +29,31 @@ go_on-requires-clause-room c = record {
 pub go_on-requires-clause-limits : goal.go_on-requires-clause-limits
 go_on-requires-clause-limits c = record {
   settings = c.requires.limits.settings;
-  found = subst (AllByRecursion IsLimited) (sym c.move_over.ensures.items) c.requires.limits.found;
+  rising = c.requires.limits.rising;
+  found = subst (λ (ps : List Piece). AllByRecursion IsLimited (all_items ps)) (sym c.move_over.ensures.items) c.requires.limits.found;
   wanted = tt;
-  later = subst (AllByRecursion IsLimited) (sym c.move_all.ensures.items)
-      (all_joined IsLimited c.move_over-2.new.items.items (reverse c.args.items.items)
-      (subst (AllByRecursion IsLimited) (sym c.move_over-2.ensures.items) c.requires.limits.later) (all_reversed IsLimited c.args.items.items c.requires.limited));
+  later = subst (AllByRecursion IsLimited) (sym (later_are c.move_over-2.new.items.items c.args.self.now.later.items c.move_all.new.later.items c.args.pieces.items c.move_over-2.ensures.items c.move_all.ensures.items))
+      (all_joined IsLimited (back_items c.args.self.now.later.items) (reverse (all_items c.args.pieces.items)) c.requires.limits.later (all_reversed IsLimited (all_items c.args.pieces.items) c.requires.limited));
+  found_apart = subst (AllByRecursion (IsAside c.args.self.now.settings.items)) (sym c.move_over.ensures.items) c.requires.limits.found_apart;
+  later_apart = subst (AllByRecursion (IsAside c.args.self.now.settings.items)) (sym c.move_all.ensures.items)
+      (all_joined (IsAside c.args.self.now.settings.items) c.move_over-2.new.items.items (reverse c.args.pieces.items)
+      (subst (AllByRecursion (IsAside c.args.self.now.settings.items)) (sym c.move_over-2.ensures.items) c.requires.limits.later_apart)
+      (all_reversed (IsAside c.args.self.now.settings.items) c.args.pieces.items c.requires.apart));
 }
 
 pub returns-clause-taken : goal.returns-clause-taken
 returns-clause-taken c = λ m changes n todo s node changing is path hash bytes read known.
     let j = c.args.self.now in
-    let before : IsUnderWay j.settings.items (with_wanted j.settings.items j.fed.items (Some s) j.found.items j.later.items) m changes (n ∷ todo) =
-    subst (λ (o : Option Stub). IsUnderWay j.settings.items (with_wanted j.settings.items j.fed.items o j.found.items j.later.items) m changes (n ∷ todo)) is changing.stage.under_way in
-    let after : IsUnderWay j.settings.items (with_wanted j.settings.items (j.fed.items ++ c.args.fed ∷ []) None j.found.items c.move_all.new.later.items) m changes todo =
-    taken m changes changing.within j.fed.items j.found.items j.later.items s n todo c.args.fed c.args.items.items c.move_all.new.later.items node path hash bytes read known
-    (c.move_all.ensures.items ∙ ap (λ (xs : List Item). xs ++ reverse c.args.items.items) c.move_over-2.ensures.items) j.settings.items j.settings.items before in
+    let before : IsUnderWay j.settings.items (with_wanted j.settings.items j.fed.items (Some s) (all_items j.found.items) (back_items j.later.items)) m changes (n ∷ todo) =
+    subst (λ (o : Option Stub). IsUnderWay j.settings.items (with_wanted j.settings.items j.fed.items o (all_items j.found.items) (back_items j.later.items)) m changes (n ∷ todo)) is changing.stage.under_way in
+    let after : IsUnderWay j.settings.items (with_wanted j.settings.items (j.fed.items ++ c.args.fed ∷ []) None (all_items j.found.items) (back_items c.move_all.new.later.items)) m changes todo =
+    taken m changes changing.within j.fed.items (all_items j.found.items) (back_items j.later.items) s n todo c.args.fed (all_items c.args.pieces.items) (back_items c.move_all.new.later.items) node path hash bytes read known
+    (later_are c.move_over-2.new.items.items j.later.items c.move_all.new.later.items c.args.pieces.items c.move_over-2.ensures.items c.move_all.ensures.items) j.settings.items j.settings.items before in
     let fed_are : c.push_reserved.new.self.items ≡ j.fed.items ++ c.args.fed ∷ [] =
     c.push_reserved.ensures.items ∙ ap (λ (fs : List Fed). fs ++ c.args.fed ∷ []) c.move_over-3.ensures.items in
-    let there : IsUnderWay j.settings.items (with_wanted j.settings.items c.push_reserved.new.self.items None c.move_over.new.items.items c.move_all.new.later.items) m changes todo =
-    subst (λ (fs : List Fed). IsUnderWay j.settings.items (with_wanted j.settings.items fs None c.move_over.new.items.items c.move_all.new.later.items) m changes todo) (sym fed_are)
-    (subst (λ (xs : List Item). IsUnderWay j.settings.items (with_wanted j.settings.items (j.fed.items ++ c.args.fed ∷ []) None xs c.move_all.new.later.items) m changes todo)
+    let there : IsUnderWay j.settings.items (with_wanted j.settings.items c.push_reserved.new.self.items None (all_items c.move_over.new.items.items) (back_items c.move_all.new.later.items)) m changes todo =
+    subst (λ (fs : List Fed). IsUnderWay j.settings.items (with_wanted j.settings.items fs None (all_items c.move_over.new.items.items) (back_items c.move_all.new.later.items)) m changes todo) (sym fed_are)
+    (subst (λ (ps : List Piece). IsUnderWay j.settings.items (with_wanted j.settings.items (j.fed.items ++ c.args.fed ∷ []) None (all_items ps) (back_items c.move_all.new.later.items)) m changes todo)
     (sym c.move_over.ensures.items) after) in
     let stage : IsFedSoFar c.go_on.new.self m changes todo = c.go_on.ensures.stage m changes todo there in
     record { within = changing.within; changes_within = changing.changes_within; wants = wants_of c.go_on.new.self m changes todo changing.within stage; stage = stage }

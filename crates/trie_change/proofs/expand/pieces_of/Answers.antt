@@ -1,0 +1,93 @@
+use Rattle.std.proofs.Common.{◌≡◌, ℕ, ◌+◌, ◌-◌, List, [], ◌∷◌, ◌++◌, get_or, false, Option, None, ap, subst, sym, ◌∙◌, arith}
+use Rattle.std.specs.List.{AllByRecursion, flat_map}
+use Rattle.trie_codec.specs.Slices.{bytes_in}
+use Rattle.trie_codec.specs.NodeParts.{child_bytes, node_of_ref}
+use Rattle.trie_model.specs.Node.{Node}
+use Rattle.trie_root.proofs.ReadOffNibbles.{from}
+use Rattle.trie_change.specs.declared.frontier.Sibling.{Sibling}
+use Rattle.trie_change.specs.declared.settings.Setting.{Setting}
+use Rattle.trie_change.specs.inner.InOrder.{IsRising, begins_one}
+use Rattle.trie_change.specs.inner.Known.{Known, all_known, known_at, known_in, own_known}
+use Rattle.trie_change.specs.inner.Pieces.{IsAside, all_items, sibling_items}
+use Rattle.trie_change.proofs.ApartRuns.{run_apart}
+use Rattle.trie_change.proofs.KnownRuns.{after_run, sibling_known, to_run}
+use Rattle.trie_change.proofs.KnownSteps.{known_begin, one_child}
+use Rattle.trie_change.proofs.SiblingRuns.{IsRun, run_added, run_after, run_none}
+use Rattle.trie_change.proofs.expand.pieces_of.Goals as goal
+
+pub loop-i-init : goal.loop-i-init
+loop-i-init c =
+    let n : Node = node_of_ref c.args.node.now in
+    let end : List ℕ = c.as_slice-end.result.now in
+    let f : ℕ → List Known = λ i. known_at (known_in 32) (end ++ i ∷ []) (get_or n.children i None) in
+    let own : List Known = own_known end (bytes_in c.value.result) in
+    let none : all_known (sibling_items end c.new-run.result.items) ≡ [] = ap (λ (ss : List Sibling). all_known (sibling_items end ss)) c.new-run.ensures.items in
+    let first : all_known (all_items c.put_own.new.out.items) ≡ own =
+    c.in_ok-put_own.ensures.known ∙ ap (λ ps. all_known (all_items ps) ++ own) c.new-pieces.ensures.items in
+    record {
+      known =
+          ap (λ (ks : List Known). ks ++ (all_known (sibling_items end c.new-run.result.items) ++ flat_map f (from 0 16))) first
+          ∙ ap (λ (ks : List Known). own ++ (ks ++ flat_map f (from 0 16))) none
+          ∙ known_begin 33 n c.args.path.now end (bytes_in c.value.result) (omega arith) (c.as_slice-end.ensures ∙ c.in_ok-end.ensures) c.value.ensures.bytes;
+      apart = λ rising. c.in_ok-put_own.ensures.apart c.args.settings.now (subst (λ ps. AllByRecursion (IsAside c.args.settings.now) ps) (sym c.new-pieces.ensures.items) tt);
+      run = λ rising. subst (λ (ss : List Sibling). IsRun c.args.settings.now end 0 ss) (sym c.new-run.ensures.items) (run_none c.args.settings.now end 0);
+    }
+
+pub loop-i-preserved-in-Some : goal.loop-i-preserved-in-Some
+loop-i-preserved-in-Some c =
+    let n : Node = node_of_ref c.args.node.now in
+    let end : List ℕ = c.as_slice-end.result.now in
+    let i : ℕ = c.loop-i.i in
+    let go : Node → List ℕ → List Known = known_in 32 in
+    let f : ℕ → List Known = λ i. known_at go (end ++ i ∷ []) (get_or n.children i None) in
+    let before : List Known = all_known (all_items c.loop-i.pieces.items) in
+    let run : List Sibling = c.loop-i.run.items in
+    let s : Sibling = c.in-Some.sibling in
+    let rest : List Known = flat_map f (from (i + 1) (16 - (i + 1))) in
+    let known : before ++ (all_known (sibling_items end c.push.new.self.items) ++ rest) ≡ known_in 33 n c.args.path.now =
+    ap (λ (ss : List Sibling). before ++ (all_known (sibling_items end ss) ++ rest)) c.in_ok-push.ensures.items
+    ∙ ap (λ (ks : List Known). before ++ (ks ++ rest))
+    (sibling_known go end run s i (get_or n.children i None) c.in-Some.ensures.some.0 c.in-Some.ensures.some.2 c.in-Some.ensures.some.3 c.in-Some.ensures.some.4)
+    ∙ to_run before (all_known (sibling_items end run)) (f i) rest
+    ∙ ap (λ (ks : List Known). before ++ (all_known (sibling_items end run) ++ ks)) (sym (one_child f i c.loop-i-test.true))
+    ∙ c.loop-i.invariant.known in
+    let off : IsRising c.args.settings.now → begins_one c.args.settings.now (end ++ i ∷ []) ≡ false =
+    λ rising. sym (c.nibbles_set-set.ensures i rising c.loop-i-test.true) ∙ c.in-Some.ensures.some.1 in
+    record {
+      known = known;
+      apart = c.loop-i.invariant.apart;
+      run = λ rising. subst (λ (ss : List Sibling). IsRun c.args.settings.now end (i + 1) ss) (sym c.in_ok-push.ensures.items)
+          (run_added c.args.settings.now end i run s c.in-Some.ensures.some.0 (off rising) (c.loop-i.invariant.run rising));
+    }
+
+pub loop-i-preserved : goal.loop-i-preserved
+loop-i-preserved c =
+    let n : Node = node_of_ref c.args.node.now in
+    let end : List ℕ = c.as_slice-end.result.now in
+    let i : ℕ = c.loop-i.i in
+    let go : Node → List ℕ → List Known = known_in 32 in
+    let f : ℕ → List Known = λ i. known_at go (end ++ i ∷ []) (get_or n.children i None) in
+    let settings : List Setting = c.args.settings.now in
+    let before : List Known = all_known (all_items c.loop-i.pieces.items) in
+    let run : List Sibling = c.loop-i.run.items in
+    let after : List Known = all_known (all_items c.put_after_run.new.out.items) in
+    let others : List Sibling = c.in_ok-run.run'.items in
+    let rest : List Known = flat_map f (from (i + 1) (16 - (i + 1))) in
+    let known : after ++ (all_known (sibling_items end others) ++ rest) ≡ known_in 33 n c.args.path.now =
+    after_run before (all_known (sibling_items end run)) (known_at go (end ++ i ∷ []) (child_bytes c.child.result)) after (all_known (sibling_items end others)) rest
+    c.in_ok-run.ensures.known
+    ∙ ap (λ (o : Option (List ℕ)). before ++ (all_known (sibling_items end run) ++ (known_at go (end ++ i ∷ []) o ++ rest))) (sym c.child.ensures.bytes)
+    ∙ ap (λ (ks : List Known). before ++ (all_known (sibling_items end run) ++ ks)) (sym (one_child f i c.loop-i-test.true))
+    ∙ c.loop-i.invariant.known in
+    let unset : IsRising settings → begins_one settings (end ++ i ∷ []) ≡ get_or c.nibbles_set-set.result i false =
+    λ rising. sym (c.nibbles_set-set.ensures i rising c.loop-i-test.true) in
+    record {
+      known = known;
+      apart = λ rising. c.in_ok-run.ensures.apart settings (run_apart settings end i run (c.loop-i.invariant.run rising)) (c.loop-i.invariant.apart rising);
+      run = λ rising. run_after settings end i run others (get_or c.nibbles_set-set.result i false) (unset rising) c.in_ok-run.ensures.rest (c.loop-i.invariant.run rising);
+    }
+
+pub returns-clause-apart : goal.returns-clause-apart
+returns-clause-apart c = λ rising.
+    c.in_ok-put_run.ensures.apart c.args.settings.now
+    (run_apart c.args.settings.now c.as_slice-end.result.now c.loop-i.i c.loop-i.run.items (c.loop-i.invariant.run rising)) (c.loop-i.invariant.apart rising)
