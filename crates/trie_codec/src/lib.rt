@@ -2,8 +2,8 @@
 //!
 //! `NodeRef` reads a node and owns nothing: what it gives of the node are slices of its input. It reads exactly the
 //! spellings of nodes, and else names the first fault from the left; it takes no memory. `encode` writes the one
-//! spelling of a node's parts, `encode_parts` that of borrowed parts, and `encode_leaf` that of a leaf from a key's
-//! bytes, with no copy of its nibbles. Nodes and spellings are defined in the crate of the trie's definitions, and the
+//! spelling of a node's parts, `encode_parts` that of borrowed parts, `encode_spelled` that of a node whose children are
+//! spelled already, and `encode_leaf` that of a leaf from a key's bytes, with no copy of its nibbles. Nodes and spellings are defined in the crate of the trie's definitions, and the
 //! order of faults in `specs/Reading`. Which nodes make a trie is left to the layers above.
 #![tactic(auto)]
 
@@ -13,6 +13,7 @@ mod merkle_value;
 mod node_ref;
 mod plain;
 mod reading;
+mod spelled_children;
 mod writing;
 
 pub use fault::CodecFault;
@@ -23,4 +24,5 @@ pub use laws::{
 pub use merkle_value::MerkleValue;
 pub use node_ref::{ChildRef, Kind, NodeRef};
 pub use plain::{ChildList, Plain};
-pub use writing::{encode, encode_leaf, encode_parts};
+pub use spelled_children::SpelledChildren;
+pub use writing::{encode, encode_leaf, encode_parts, encode_spelled};

@@ -1,4 +1,4 @@
-ghost use Rattle.std.specs.Prelude.{◌≡◌, ◌+◌, ◌/◌, ◌<◌, ◌≤◌, ℕ, IfSome, None, length, slice_index, slice_index_or, is_some};
+ghost use Rattle.std.specs.Prelude.{◌≡◌, ◌+◌, ◌/◌, ◌%◌, ◌<◌, ◌≤◌, ℕ, IfSome, None, drop, length, slice_index, slice_index_or, is_some};
 ghost use Rattle.std.specs.List.{list_any};
 ghost use Rattle.std.proofs.Props.{props};
 ghost use Rattle.trie_codec.specs.Slices.{bytes_in};
@@ -41,6 +41,7 @@ pub struct NodeRef<'a> {
 }
 
 impl<'a> NodeRef<'a> {
+    ghost use Rattle.sdb_base.specs.Nibbles.{nibbles_of};
     ghost use Rattle.trie_codec.specs.NodeParts.{IsChildOf, child_bytes, child_slice, kind_of, node_of_ref, value_slice};
 
     /// What the node is.
@@ -74,6 +75,14 @@ impl<'a> NodeRef<'a> {
         let half = self.partial_len % 2 + i;
         let byte = self.partial[half / 2];
         if half % 2 == 0 { byte / 16 } else { byte % 16 }
+    }
+
+    /// The bytes of the partial key. Of an odd count of nibbles the first is the low half of the first byte.
+    #[tactic(auto, using(crate::proofs::Partial::partial_key))]
+    pub fn partial_bytes(&self) -> &'a [u8]
+        ensures { drop ((length (node_of_ref self.now).partial) % 2) (nibbles_of result.now) ≡ (node_of_ref self.now).partial }
+    {
+        self.partial
     }
 
     /// The value, if the node has one.

@@ -10,6 +10,7 @@ ghost use Rattle.trie_codec.specs.Slices.{bytes_in};
 
 use crate::merkle_value::MerkleValue;
 use crate::plain::Plain;
+use crate::spelled_children::SpelledChildren;
 use sdb_base::{Bytes, OutOfMemory};
 use sdb_scale::{ScaleFault, put_bytes};
 use std::alloc::{AllocError, Global};
@@ -48,6 +49,32 @@ pub fn encode_parts(
     let mut out = Vec::with_capacity(alloc, room_of(partial, value, is_branch))?;
     if is_branch {
         put_branch(&mut out, partial, value, children)?;
+    } else {
+        match value {
+            None => out.push(0)?,
+            Some(value) => put_leaf(&mut out, partial, value)?,
+        }
+    }
+    Ok(Bytes::from_vec(out))
+}
+
+/// `encode_parts` of children that are spelled already: all sixteen were put.
+#[tactic(auto, unfolding(trie_model::specs::Node::spelling))]
+pub fn encode_spelled(
+    alloc: Global,
+    partial: &[u8],
+    value: Option<&[u8]>,
+    children: &SpelledChildren,
+) -> Result<Bytes, OutOfMemory>
+    requires { IsSpellable (node_with partial.now (bytes_in value) children.now) }
+    ensures { IfOk result (λ bytes. bytes
+        ≡ spelling (node_with partial.now (bytes_in value.entry) children.now)) }
+{
+    let is_branch = children.map() != 0;
+    let mut out = Vec::with_capacity(alloc, room_of(partial, value, is_branch))?;
+    if is_branch {
+        put_front(&mut out, partial, value, children.map())?;
+        out.extend_from_slice(children.as_slice())?;
     } else {
         match value {
             None => out.push(0)?,
@@ -138,12 +165,28 @@ fn put_branch(
     ensures { OnOk result (out.new.items ≡ out.old.items
         ++ spelled true (bytes_in value.entry) (node_with partial.now (bytes_in value.entry) children.now)) }
 {
+    put_front(out, partial, value, bitmap_of(children))?;
+    put_children(out, children)
+}
+
+// Appends what stands before the children of a branch: its header, its partial key, the bitmap of its children and its value.
+fn put_front(
+    out: &mut Vec<u8>,
+    partial: &[u8],
+    value: Option<&[u8]>,
+    map: u16,
+) -> Result<(), AllocError>
+    requires partial { IsPartial partial.now }
+    requires value { IfSome (bytes_in value) HasCompactLength }
+    ensures { OnOk result (out.new.items ≡ out.old.items
+        ++ (header (branch_kind (bytes_in value.entry)) (length partial.now) ++ (packed partial.now
+        ++ (to_le_bytes w16 map ++ optional_string (bytes_in value.entry))))) }
+{
     let kind = if value.is_some() { 3 } else { 2 };
     put_header(out, kind, partial.len())?;
     put_packed(out, partial)?;
-    out.extend_from_slice(&bitmap_of(children).to_le_bytes())?;
-    put_optional(out, value)?;
-    put_children(out, children)
+    out.extend_from_slice(&map.to_le_bytes())?;
+    put_optional(out, value)
 }
 
 // Appends the header of a kind and a number of nibbles.
