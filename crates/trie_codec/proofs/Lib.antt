@@ -3,6 +3,7 @@ pub mod Bitmaps
 pub mod Bits
 pub mod Bodies
 pub mod Children
+pub mod FromLast
 pub mod Headers
 pub mod KeyBytes
 pub mod Layouts

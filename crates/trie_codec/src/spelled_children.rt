@@ -1,6 +1,6 @@
-ghost use Rattle.std.specs.Prelude.{◌≡◌, ◌+◌, ◌-◌, ◌*◌, ◌≤◌, ◌<◌, [], ◌∷◌, None, Some, IfOk, drop, length};
+ghost use Rattle.std.specs.Prelude.{◌≡◌, ◌+◌, ◌-◌, ◌*◌, ◌≤◌, ◌<◌, [], ◌∷◌, ◌++◌, None, Some, IfOk, drop, length};
 ghost use Rattle.std.specs.List.{flat_map};
-ghost use Rattle.trie_model.specs.Node.{bitmap, optional_string};
+ghost use Rattle.trie_model.specs.Node.{bitmap, has_child, optional_string};
 ghost use Rattle.trie_codec.specs.SpelledChildren.{children_in};
 
 use sdb_base::OutOfMemory;
@@ -36,6 +36,21 @@ impl Model for SpelledChildren {
 // Room for sixteen hashes, each after its length.
 const MOST_BYTES: usize = 16 * 33;
 
+// Writes a byte string that ends where those after it begin, and gives where it begins.
+fn put_before(bytes: &mut Vec<u8>, end: usize, value: &[u8]) -> usize
+    requires inside { end ≤ length bytes.old.items }
+    requires room { length value.now < end }
+    requires short { length value.now ≤ 32 }
+    ensures start { result + 1 + length value.now ≡ end }
+    ensures len { length bytes.new.items ≡ length bytes.old.items }
+    ensures spelled { drop result bytes.new.items ≡ (4 * length value.now) ∷ (value.now ++ drop end bytes.old.items) }
+{
+    let at = end - value.len();
+    bytes[at..end].copy_from_slice(value);
+    bytes[at - 1] = 4 * value.len() as u8;
+    at - 1
+}
+
 impl SpelledChildren {
     /// No child is put yet.
     pub fn new(alloc: Global) -> Result<SpelledChildren, OutOfMemory>
@@ -55,10 +70,7 @@ impl SpelledChildren {
         requires short { length value.now ≤ 32 }
         ensures { self.new ≡ Some value.now ∷ self.old }
     {
-        let at = self.start - value.len();
-        self.bytes[at..self.start].copy_from_slice(value);
-        self.bytes[at - 1] = 4 * value.len() as u8;
-        self.start = at - 1;
+        self.start = put_before(&mut self.bytes, self.start, value);
         self.count += 1;
         self.map = 2 * self.map + 1;
     }
@@ -69,7 +81,15 @@ impl SpelledChildren {
         ensures { self.new ≡ None ∷ self.old }
     {
         self.count += 1;
-        self.map *= 2;
+        self.map = 2 * self.map;
+    }
+
+    // Whether there is a child.
+    #[tactic(auto, using(crate::proofs::FromLast::no_child, crate::proofs::FromLast::some_child))]
+    pub(crate) fn has_child(&self) -> bool
+        ensures { result ≡ has_child self.now }
+    {
+        self.map != 0
     }
 
     // A bit for each child, that of the first the lowest.

@@ -70,7 +70,7 @@ pub fn encode_spelled(
     ensures { IfOk result (λ bytes. bytes
         ≡ spelling (node_with partial.now (bytes_in value.entry) children.now)) }
 {
-    let is_branch = children.map() != 0;
+    let is_branch = children.has_child();
     let mut out = Vec::with_capacity(alloc, room_of(partial, value, is_branch))?;
     if is_branch {
         put_front(&mut out, partial, value, children.map())?;
