@@ -1,4 +1,4 @@
-use Rattle.std.proofs.Common.{◌≡◌, ◌+◌, ◌≤◌, ◌∷◌, ℕ, Some, drop, length, ap, sym, ◌∙◌, arith}
+use Rattle.std.proofs.Common.{◌≡◌, ◌≤◌, ◌∷◌, Some, drop, length, ap, sym, ◌∙◌, arith}
 use Rattle.trie_codec.specs.SpelledChildren.{children_in}
 use Rattle.trie_codec.proofs.FromLast.{child_mapped, child_put, child_spelled, length-children_in}
 use Rattle.trie_codec.proofs.Layouts.{bitmap_fits}

@@ -1,6 +1,4 @@
-use Rattle.std.proofs.Common.{◌≡◌, ◌+◌, ◌≤◌, ◌∷◌, ℕ, None, drop, length, refl, ap, sym, ◌∙◌, arith}
-use Rattle.trie_model.specs.Node.{bitmap, optional_string}
-use Rattle.std.specs.List.{flat_map}
+use Rattle.std.proofs.Common.{◌≡◌, ◌≤◌, drop, length, ap, sym, ◌∙◌, arith}
 use Rattle.trie_codec.specs.SpelledChildren.{children_in}
 use Rattle.trie_codec.proofs.FromLast.{length-children_in, none_mapped, none_spelled}
 use Rattle.trie_codec.proofs.Layouts.{bitmap_fits}
