@@ -8,7 +8,7 @@ ghost use Rattle.trie_codec.specs.Parts.{node_with};
 ghost use Rattle.trie_codec.specs.Slices.{bytes_in};
 ghost use Rattle.trie_change.specs.Frontier.{IsLimited};
 ghost use Rattle.trie_change.specs.inner.Built.{FitsNode, IsMade, IsShortValue, ItemBranch, ItemGroup, is_made, made_of_group, node_of_group, nodes_at, nodes_below, values_below};
-ghost use Rattle.trie_change.specs.inner.Pieces.{IsCutAt, IsUncut, all_items, piece_hash, piece_path, piece_rank, piece_value, sibling_items};
+ghost use Rattle.trie_change.specs.inner.Pieces.{IsCutAt, IsKeyAlone, IsUncut, all_items, piece_hash, piece_path, piece_rank, piece_value, sibling_items};
 ghost use Rattle.trie_change.specs.inner.Diffs.{AreShort, Comparison, IsComparison, after_nodes, most_in_node};
 
 use crate::diff::Diff;
@@ -117,6 +117,9 @@ fn children_of(
         → IfOk result (λ children. (children ≡ values_below b.group.suffixes b.group.path)
         × IsComparison diff.new (after_nodes c (filter (is_made b.group.under) (nodes_below b.group.suffixes b.group.path)))) }
 {
+    if is_key_alone(items, at) {
+        return Ok(SpelledChildren::none(alloc));
+    }
     let mut children = SpelledChildren::new(alloc)?;
     let mut rest = items;
     let mut nodes: &[Sibling] = &[];
@@ -136,6 +139,16 @@ fn children_of(
         }
     }
     Ok(children)
+}
+
+// Whether there is one key and no more, which ends at `at` nibbles.
+fn is_key_alone(items: &[Piece], at: usize) -> bool
+    ensures { result ≡ true → IsKeyAlone at items.now }
+{
+    match items {
+        [Piece::Entry(entry)] => entry.path.as_slice().len() == at,
+        _ => false,
+    }
 }
 
 // Puts the Merkle value of the node over items that agree in their first `at` nibbles, or that there is none.

@@ -1,4 +1,4 @@
-ghost use Rattle.std.specs.Prelude.{◌≡◌, ◌+◌, ◌-◌, ◌*◌, ◌≤◌, ◌<◌, [], ◌∷◌, ◌++◌, None, Some, IfOk, drop, length};
+ghost use Rattle.std.specs.Prelude.{◌≡◌, ◌+◌, ◌-◌, ◌*◌, ◌≤◌, ◌<◌, [], ◌∷◌, ◌++◌, None, Some, IfOk, drop, length, replicate};
 ghost use Rattle.std.specs.List.{flat_map};
 ghost use Rattle.trie_model.specs.Node.{bitmap, has_child, optional_string};
 ghost use Rattle.trie_codec.specs.SpelledChildren.{children_in};
@@ -62,6 +62,18 @@ impl SpelledChildren {
             count: 0,
             map: 0,
         })
+    }
+
+    /// All sixteen children, of which none is there. They take no memory.
+    pub fn none(alloc: Global) -> SpelledChildren
+        ensures { result ≡ replicate 16 None }
+    {
+        SpelledChildren {
+            bytes: Vec::new(alloc),
+            start: 0,
+            count: 16,
+            map: 0,
+        }
     }
 
     /// Puts the Merkle value, of at most 32 bytes, of the child before those that were put, of which there are fewer than sixteen.

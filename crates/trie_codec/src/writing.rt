@@ -71,10 +71,12 @@ pub fn encode_spelled(
         ≡ spelling (node_with partial.now (bytes_in value.entry) children.now)) }
 {
     let is_branch = children.has_child();
-    let mut out = Vec::with_capacity(alloc, room_of(partial, value, is_branch))?;
+    let spelled = children.as_slice();
+    let room = room_of(partial, value, false).saturating_add(2 + spelled.len());
+    let mut out = Vec::with_capacity(alloc, room)?;
     if is_branch {
         put_front(&mut out, partial, value, children.map())?;
-        out.extend_from_slice(children.as_slice())?;
+        out.extend_from_slice(spelled)?;
     } else {
         match value {
             None => out.push(0)?,

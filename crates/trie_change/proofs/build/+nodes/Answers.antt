@@ -12,6 +12,7 @@ use Rattle.trie_change.specs.inner.Built.{is_made, made_of_group, node_of_group,
 use Rattle.trie_change.specs.inner.Diffs.{IsComparison, after_nodes}
 use Rattle.trie_change.specs.inner.Pieces.{all_items, piece_hash, piece_path}
 use Rattle.trie_change.proofs.ChildValues.{any_there, group_some, longer_path, value_there}
+use Rattle.trie_change.proofs.KeysAlone.{none_of_key}
 use Rattle.trie_change.proofs.MadeGroups.{end_within}
 use Rattle.trie_change.proofs.PieceGroups.{piece_kept, piece_path_taken, pieces_made}
 use Rattle.trie_change.proofs.PieceItems.{some_items}
@@ -185,3 +186,8 @@ made_of-returns-clause-made t c = λ g k is.
     c.requires.long none (ap (λ (n : ℕ). at + n) shared)
     (λ b. let out = c.in_ok-children.ensures.children b k is in (out.0, out.1))
     c.in_ok-bytes.ensures.spelled
+
+pub children_of-returns-then-is_key_alone-clause-children : goal.children_of-returns-then-is_key_alone-clause-children
+children_of-returns-then-is_key_alone-clause-children t c = λ b k is.
+    let out = none_of_key c.args.at c.args.items.now c.args.diff.now (c.is_key_alone.ensures c.if-is_key_alone.true) b k is in
+    (c.none.ensures ∙ out.0, out.1)
