@@ -26,6 +26,9 @@ pub struct ChangeJob {
     later: Vec<Piece>,
 }
 
+// A change of a few keys fetches and knows of about so many nodes, so that nothing needs to grow.
+const FIRST_ROOM: usize = 48;
+
 // A node that was fed.
 fn fed_of(alloc: Global, wanted: &Stub, bytes: &[u8]) -> Result<Fed, OutOfMemory>
     ensures path { IfOk result (λ f. f.path.items ≡ wanted.now.path.items) }
@@ -69,7 +72,7 @@ impl ChangeJob {
     ghost use Rattle.trie_change.specs.inner.Stages.{HasPlaces, IsCarriedOut, IsFedSoFar, IsUnderWay, job_parts};
     ghost use Rattle.trie_change.specs.declared.frontier.Stub.{Stub};
 
-    // A job that has what is set, and knows of nothing, with room for a first item.
+    // A job that has what is set, and knows of nothing, with room for the pieces of a few changes.
     fn begun(alloc: Global, changes: Changes) -> Result<ChangeJob, OutOfMemory>
         requires { ChangesAreWithin changes }
         ensures settings { IfOk result (λ j. set_pairs j.settings.items ≡ settings_of changes) }
@@ -82,13 +85,13 @@ impl ChangeJob {
         ensures room { IfOk result (HasPlaces 1) }
     {
         let settings = settings_of(alloc, changes)?;
-        let Some(room) = settings.len().checked_add(1) else {
+        let Some(room) = settings.len().checked_add(FIRST_ROOM) else {
             return Err(AllocError);
         };
         Ok(ChangeJob {
             alloc,
             settings,
-            fed: Vec::new(alloc),
+            fed: Vec::with_capacity(alloc, FIRST_ROOM)?,
             wanted: None,
             found: Vec::with_capacity(alloc, room)?,
             later: Vec::with_capacity(alloc, room)?,

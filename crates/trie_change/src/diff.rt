@@ -42,10 +42,11 @@ impl Diff {
     {
         let mut fed = fed;
         fed.sort_by(by_path)?;
+        let room = fed.len();
         Ok(Diff {
             fed,
-            puts: Vec::new(alloc),
-            drops: Vec::new(alloc),
+            puts: Vec::with_capacity(alloc, room)?,
+            drops: Vec::with_capacity(alloc, room)?,
         })
     }
 

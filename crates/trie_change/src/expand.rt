@@ -7,6 +7,7 @@ ghost use Rattle.trie_change.specs.inner.Pieces.{AreAside, IsAside, all_items, s
 ghost use Rattle.trie_change.specs.inner.Known.{HasItsSize, all_known, known_at, known_in, own_known, stub_known};
 
 use crate::frontier::{Entry, Path, Piece, Sibling, Siblings, Stub};
+use crate::nibbles::push_nibbles;
 use crate::settings::{Setting, nibbles_set};
 use sdb_base::{Bytes, NodeHash, OutOfMemory};
 use smallvec::SmallVec;
@@ -24,9 +25,12 @@ fn end_of(alloc: Global, path: &[u8], node: &NodeRef) -> Result<Path, OutOfMemor
     ensures { IfOk result (λ p. p.items ≡ path.now ++ (node_of_ref node.now).partial) }
 {
     let mut end = SmallVec::from_slice(alloc, path)?;
-    for i in 0..node.partial_len() {
-        end.push(node.nibble(i))?;
+    let mut bytes = node.partial_bytes();
+    if node.partial_len() % 2 == 1 {
+        end.push(bytes[0] % 16)?;
+        bytes = &bytes[1..];
     }
+    push_nibbles(&mut end, bytes)?;
     Ok(end)
 }
 
@@ -183,6 +187,17 @@ fn sibling_at(node: &NodeRef, end: &[u8], nibble: u8, is_set: bool) -> Option<Si
     }
 }
 
+// Adds a sibling to a run. The first makes room for as many as a node can have.
+fn push_sibling(run: &mut Vec<Sibling>, sibling: Sibling) -> Result<(), OutOfMemory>
+    ensures { OnOk result (run.new.items ≡ run.old.items ++ sibling ∷ []) }
+{
+    if run.is_empty() {
+        run.reserve(16)?;
+    }
+    run.push(sibling)?;
+    Ok(())
+}
+
 // Ends a run of siblings before a child, and adds what there is at the child. The run goes on where there is nothing and no
 // key that is set goes on with the nibble.
 fn put_after_run(
@@ -231,7 +246,7 @@ pub(crate) fn pieces_of(
     for i in 0..16u8 {
         let is_set = set[i as usize];
         if let Some(sibling) = sibling_at(node, end, i, is_set) {
-            run.push(sibling)?;
+            push_sibling(&mut run, sibling)?;
             continue;
         }
         run = put_after_run(alloc, end, i, node.child(i), is_set, run, &mut pieces)?;

@@ -21,6 +21,7 @@ mod expand;
 mod frontier;
 mod in_order;
 mod laws;
+mod nibbles;
 mod room;
 mod settings;
 

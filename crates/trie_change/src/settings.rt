@@ -15,6 +15,7 @@ ghost use Rattle.trie_change.specs.inner.Pieces.{IsAside, IsBesideKey, all_items
 
 use crate::frontier::{Entry, Path, Piece};
 use crate::in_order::path_of;
+use crate::nibbles::push_nibbles;
 use sdb_base::{Bytes, Change, Changes, OutOfMemory};
 use smallvec::SmallVec;
 use std::alloc::Global;
@@ -34,10 +35,7 @@ fn path_of_key(alloc: Global, key: &[u8]) -> Result<Path, OutOfMemory>
     ensures { IfOk result (λ p. p.items ≡ nibbles_of key.now) }
 {
     let mut path = SmallVec::new(alloc);
-    for byte in key {
-        path.push(byte / 16)?;
-        path.push(byte % 16)?;
-    }
+    push_nibbles(&mut path, key)?;
     Ok(path)
 }
 
