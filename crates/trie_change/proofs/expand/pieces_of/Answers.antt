@@ -44,8 +44,8 @@ loop-i-preserved-in-Some c =
     let run : List Sibling = c.loop-i.run.items in
     let s : Sibling = c.in-Some.sibling in
     let rest : List Known = flat_map f (from (i + 1) (16 - (i + 1))) in
-    let known : before ++ (all_known (sibling_items end c.push.new.self.items) ++ rest) ≡ known_in 33 n c.args.path.now =
-    ap (λ (ss : List Sibling). before ++ (all_known (sibling_items end ss) ++ rest)) c.in_ok-push.ensures.items
+    let known : before ++ (all_known (sibling_items end c.push_sibling.new.run.items) ++ rest) ≡ known_in 33 n c.args.path.now =
+    ap (λ (ss : List Sibling). before ++ (all_known (sibling_items end ss) ++ rest)) c.in_ok-push_sibling.ensures
     ∙ ap (λ (ks : List Known). before ++ (ks ++ rest))
     (sibling_known go end run s i (get_or n.children i None) c.in-Some.ensures.some.0 c.in-Some.ensures.some.2 c.in-Some.ensures.some.3 c.in-Some.ensures.some.4)
     ∙ to_run before (all_known (sibling_items end run)) (f i) rest
@@ -56,7 +56,7 @@ loop-i-preserved-in-Some c =
     record {
       known = known;
       apart = c.loop-i.invariant.apart;
-      run = λ rising. subst (λ (ss : List Sibling). IsRun c.args.settings.now end (i + 1) ss) (sym c.in_ok-push.ensures.items)
+      run = λ rising. subst (λ (ss : List Sibling). IsRun c.args.settings.now end (i + 1) ss) (sym c.in_ok-push_sibling.ensures)
           (run_added c.args.settings.now end i run s c.in-Some.ensures.some.0 (off rising) (c.loop-i.invariant.run rising));
     }
 

@@ -22,6 +22,6 @@ returns-clause-begins c = λ old r p h.
     record {
       left = ap (λ (ns : List PathNode). reverse ns) same;
       hashes = All-permutation HasItsHash before after c.in_ok-sort_by.ensures.permutation h;
-      puts = c.new.ensures.items;
-      drops = c.new-2.ensures.items;
+      puts = c.in_ok-with_capacity.ensures.items;
+      drops = c.in_ok-with_capacity-2.ensures.items;
     }
