@@ -1,10 +1,10 @@
 -- Below a key that is alone and ends there is nothing.
-use Rattle.std.proofs.Common.{◌≡◌, ℕ, List, [], ◌∷◌, ◌++◌, length, map, replicate, drop, Option, Some, None, true, refl, ap, ap₂, subst, sym, ◌∙◌, length-drop, arith}
+use Rattle.std.proofs.Common.{◌≡◌, ℕ, List, [], ◌∷◌, ◌++◌, length, map, replicate, drop, Option, None, true, refl, ap, ap₂, subst, sym, ◌∙◌, length-drop, arith}
 use Rattle.std.specs.Prelude.{◌==◌, filter}
 use Rattle.std.specs.List.{flat_map}
 use Rattle.std.proofs.lemmas.List.{append-nil}
 use Rattle.trie_model.specs.Nodes.{PathNode, if_any}
-use Rattle.trie_model.specs.Trie.{Suffix, after_prefix, below, child_value, every_nibble, node_of_all, with_prefix}
+use Rattle.trie_model.specs.Trie.{after_prefix, below, child_value, every_nibble, node_of_all}
 use Rattle.trie_root.proofs.Prefixes.{below-append}
 use Rattle.trie_change.specs.declared.frontier.Entry.{Entry}
 use Rattle.trie_change.specs.declared.frontier.Piece.{Piece}

@@ -5,9 +5,9 @@ use sdb_base::{Bytes, Nibbles, OutOfMemory};
 use std::alloc::Global;
 use std::test::*;
 use trie_codec::{
-    ChildList, ChildRef, CodecFault, Kind, MerkleValue, NodeRef, Plain, encode, encode_leaf,
-    encode_parts, faults_stay, known_readings, more_levels_read_nothing_more,
-    what_is_read_was_written, what_is_written_is_read,
+    ChildList, ChildRef, CodecFault, Kind, MerkleValue, NodeRef, Plain, SpelledChildren, encode,
+    encode_leaf, encode_parts, encode_spelled, faults_stay, known_readings,
+    more_levels_read_nothing_more, what_is_read_was_written, what_is_written_is_read,
 };
 
 // Bytes that are no node, and their first fault. Where two faults could be named, the second comes after it.
@@ -231,6 +231,45 @@ fn spelled(
     Ok(Some(encode(alloc, &node)?))
 }
 
+// The children at these nibbles, spelled from the last one on; none where one is too long.
+fn from_last(
+    alloc: Global,
+    children: &[(u8, &[u8])],
+) -> Result<Option<SpelledChildren>, OutOfMemory>
+    ensures sixteen { IfOk result (λ found. IfSome found (λ c. length c ≡ 16)) }
+    ensures short { IfOk result (λ found. IfSome found (λ c. All (λ child. IfSome child HasCompactLength) c)) }
+{
+    let mut found = SpelledChildren::new(alloc)?;
+    for count in 0..16u8 {
+        match children.iter().find(|child| child.0 == 15 - count) {
+            None => found.put_none(),
+            Some(child) if child.1.len() <= 32 => found.put(child.1),
+            Some(_) => return Ok(None),
+        }
+    }
+    Ok(Some(found))
+}
+
+// `spelled`, of children that are spelled already.
+fn spelled_from_last(
+    alloc: Global,
+    partial: &[u8],
+    value: Option<&[u8]>,
+    children: &[(u8, &[u8])],
+) -> Result<Option<Bytes>, OutOfMemory> {
+    if !is_partial(partial) {
+        return Ok(None);
+    }
+    match value {
+        Some(bytes) if bytes.len() > 16384 => return Ok(None),
+        _ => {}
+    }
+    match from_last(alloc, children)? {
+        None => Ok(None),
+        Some(children) => Ok(Some(encode_spelled(alloc, partial, value, &children)?)),
+    }
+}
+
 // The Merkle value of a child, if there is one.
 fn merkle_value_at<'a>(node: &NodeRef<'a>, i: u8) -> Option<&'a [u8]>
     requires { i < 16 }
@@ -252,6 +291,10 @@ fn nodes_both_ways(rt: HostRuntime) -> Result<(), Fail> {
             return Err(Fail::new("a row's parts can't be spelled"));
         };
         assert_eq!(rt; written.as_slice(), bytes);
+        let Some(again) = spelled_from_last(alloc, partial, value, children)? else {
+            return Err(Fail::new("a row's parts can't be spelled from the last child on"));
+        };
+        assert_eq!(rt; again.as_slice(), bytes);
         let node = NodeRef::read(bytes)?;
         assert_eq!(rt; node.partial_len(), partial.len());
         assert_eq!(rt; node.value(), value);
