@@ -11,8 +11,8 @@ pub returns-clause-fits : goal.returns-clause-fits
 returns-clause-fits c =
     let children = c.args.children.now in
     let path : length c.path_of.result.now ≤ 2048 = omega (arith, ap length c.path_of.ensures, c.requires.limited.short) in
-    IfOk-weaker c.encode_spelled.result _ _
+    IfOk-weaker c.encode_parts.result _ _
     (λ b h. subst (λ (x : List ℕ). length x ≤ most_in_node) (sym h)
     (short_spelling _ (short_part _ _ c.path_of.result.now path)
     (rw c.value_here.ensures c.requires.value)
-    c.requires.sixteen (recursion_from_All (λ o. IfSome o IsShortValue) children c.requires.short))) c.encode_spelled.ensures
+    c.requires.sixteen (recursion_from_All (λ o. IfSome o IsShortValue) children c.requires.short))) c.encode_parts.ensures
