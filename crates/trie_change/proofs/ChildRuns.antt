@@ -1,8 +1,8 @@
 -- The items that go on with each nibble, from the last nibble on.
-use Rattle.std.proofs.Common.{◌≡◌, ℕ, suc, ◌+◌, ◌-◌, ◌<◌, ◌≤◌, List, [], ◌∷◌, ◌++◌, length, get_or, map, reverse, take, drop, Option, refl, ap, ap₂, subst, sym, ◌∙◌, append_assoc, take-append-drop, length-append, length-take-le, arith}
+use Rattle.std.proofs.Common.{◌≡◌, ℕ, suc, ◌+◌, ◌-◌, ◌<◌, ◌≤◌, List, [], ◌∷◌, ◌++◌, length, get_or, map, take, drop, Option, refl, ap, ap₂, subst, sym, ◌∙◌, append_assoc, take-append-drop, length-append, length-take-le, arith}
 use Rattle.std.specs.Prelude.{All, filter}
 use Rattle.std.specs.List.{AllByRecursion, flat_map}
-use Rattle.std.proofs.lemmas.List.{append-nil, reverse-append}
+use Rattle.std.proofs.lemmas.List.{append-nil}
 use Rattle.std.proofs.lemmas.List.Elements.{filter-append, recursion_from_All}
 use Rattle.trie_model.specs.Nodes.{PathNode}
 use Rattle.trie_model.specs.Trie.{below, child_value, node_of_all}
@@ -31,7 +31,7 @@ pub record Coming {at : ℕ} {items : List Item} (b : ItemBranch at items) (c : 
   pub parts : items ≡ rest ++ back
   pub low : AtMostRank at (16 - count) rest
   pub high : AboveRank at (16 - count) back
-  pub values : reverse children ≡ map (child_at_nibble b) (from (16 - count) count)
+  pub values : children ≡ map (child_at_nibble b) (from (16 - count) count)
   pub come : IsComparison d (after_nodes c (filter (is_made b.group.under) (flat_map (nodes_at_nibble b) (from (16 - count) count))))
 
 -- ---- at first
@@ -126,7 +126,7 @@ module _ {at : ℕ} {items : List Item} (b : ItemBranch at items) (c : Compariso
   abbrev pub run_group : (end : ℕ) → end ≡ at + 1 → ItemGroup end (drop start rest)
   run_group end e = group_of_run b j (drop start rest) end e the_run
 
-  pub one_comes : (child : Option (List ℕ)) (more : List (Option (List ℕ))) (e : Diff) → more ≡ children ++ child ∷ [] → child ≡ child_at_nibble b j
+  pub one_comes : (child : Option (List ℕ)) (more : List (Option (List ℕ))) (e : Diff) → more ≡ child ∷ children → child ≡ child_at_nibble b j
       → IsComparison e (after_nodes (after_nodes c (filter (is_made b.group.under) (flat_map (nodes_at_nibble b) (from (16 - count) count)))) (filter (is_made b.group.under) (nodes_at_nibble b j)))
       → Coming b c (count + 1) (take start rest) more e
   one_comes child more e pushed is come =
@@ -145,8 +145,7 @@ module _ {at : ℕ} {items : List Item} (b : ItemBranch at items) (c : Compariso
             (all_joined (λ i. j < rank_after at i) (drop start rest) k.back (all_weaker (λ i. rank_after at i ≡ suc j) (λ i. j < rank_after at i) (λ i h. omega arith) (drop start rest) on_run)
             (all_weaker (λ i. 16 - count < rank_after at i) (λ i. j < rank_after at i) (λ i h. omega arith) k.back k.high));
         values =
-            ap (λ (cs : List (Option (List ℕ))). reverse cs) pushed ∙ reverse-append children (child ∷ [])
-            ∙ ap₂ (λ (x : Option (List ℕ)) (xs : List (Option (List ℕ))). x ∷ xs) is k.values
+            pushed ∙ ap₂ (λ (x : Option (List ℕ)) (xs : List (Option (List ℕ))). x ∷ xs) is k.values
             ∙ sym (ap (λ (is : List ℕ). map (child_at_nibble b) is) (one_more count small));
         come =
             subst (IsComparison e) (sym (ap (λ (ns : List PathNode). after_nodes c ns) nodes
@@ -157,7 +156,7 @@ module _ {at : ℕ} {items : List Item} (b : ItemBranch at items) (c : Compariso
 
 pub all_come : {at : ℕ} {items : List Item} (b : ItemBranch at items) (c : Comparison) (count : ℕ) (rest : List Item) (children : List (Option (List ℕ))) (d : Diff) → count ≡ 16
     → Coming b c count rest children d
-    → (reverse children ≡ values_below b.group.suffixes b.group.path) × IsComparison d (after_nodes c (filter (is_made b.group.under) (nodes_below b.group.suffixes b.group.path)))
+    → (children ≡ values_below b.group.suffixes b.group.path) × IsComparison d (after_nodes c (filter (is_made b.group.under) (nodes_below b.group.suffixes b.group.path)))
 all_come b c count rest children d all k = (
   k.values ∙ ap (λ (n : ℕ). map (child_at_nibble b) (from (16 - n) n)) all,
   subst (λ (n : ℕ). IsComparison d (after_nodes c (filter (is_made b.group.under) (flat_map (nodes_at_nibble b) (from (16 - n) n))))) all k.come,

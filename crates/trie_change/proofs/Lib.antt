@@ -71,6 +71,7 @@ pub mod TakenStage
 pub mod KnownLimits
 pub mod LastSets
 pub mod Beginning
+pub mod KeysAlone
 pub mod KeysBegun
 pub mod PieceMoves
 pub mod PieceEnds

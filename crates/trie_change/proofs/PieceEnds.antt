@@ -8,7 +8,7 @@ use Rattle.trie_change.specs.declared.frontier.Piece.{Piece}
 use Rattle.trie_change.specs.declared.frontier.Piece.TheVariants as piece
 use Rattle.trie_change.specs.declared.frontier.Sibling.{Sibling}
 use Rattle.trie_change.proofs.HangingBetween.{ends_or_none, last_is}
-use Rattle.trie_change.proofs.PieceMoves.{back_more, items_more}
+use Rattle.trie_change.proofs.PieceLists.{all_more, back_more}
 
 some_siblings : (end : List ℕ) (nodes : List Sibling) → 2 ≤ length nodes → sibling_items end nodes ≡ [] → ⊥
 some_siblings end [] two e = absurd (omega arith)
@@ -26,7 +26,7 @@ last_of_pieces ps = elim (ends_or_none ps) [
     | inl nothing ↦ absurd (some_in more.1 nothing)
     | inr some ↦
         last_is (all_items ps) (all_items more.0 ++ some.0) some.1
-        (ap all_items more.2 ∙ items_more more.0 more.1 ∙ ap (λ (is : List Item). all_items more.0 ++ is) some.2 ∙ sym (append_assoc (all_items more.0) some.0 (some.1 ∷ [])))
+        (ap all_items more.2 ∙ all_more more.0 more.1 ∙ ap (λ (is : List Item). all_items more.0 ++ is) some.2 ∙ sym (append_assoc (all_items more.0) some.0 (some.1 ∷ [])))
         ∙ sym (ap last_item (last_is ps more.0 more.1 more.2) ∙ last_is (piece_items more.1) some.0 some.1 some.2)
   ]
 ]

@@ -1,7 +1,7 @@
 -- The items of pieces, as a piece moves from those that are later to those that were found.
 use Rattle.std.proofs.Common.{◌≡◌, List, [], ◌∷◌, ◌++◌, reverse, Some, None, refl, ap, subst, sym, ◌∙◌, append_assoc}
 use Rattle.std.specs.List.{AllByRecursion}
-use Rattle.std.proofs.lemmas.List.{append-nil, reverse-append, reverse-reverse}
+use Rattle.std.proofs.lemmas.List.{reverse-append, reverse-reverse}
 use Rattle.std.proofs.lemmas.List.Concat.{flat_map-append}
 use Rattle.trie_root.proofs.ShapesBytes.{all_joined}
 use Rattle.trie_read.proofs.OneFed.{all_split}
@@ -13,12 +13,7 @@ use Rattle.trie_change.specs.declared.settings.Setting.{Setting}
 use Rattle.trie_change.specs.declared.frontier.Piece.{Piece}
 use Rattle.trie_change.specs.declared.frontier.Piece.TheVariants as piece
 use Rattle.trie_change.specs.declared.frontier.Stub.{Stub}
-
-pub items_more : (xs : List Piece) (p : Piece) → all_items (xs ++ p ∷ []) ≡ all_items xs ++ piece_items p
-items_more xs p = flat_map-append piece_items xs (p ∷ []) ∙ ap (λ (is : List Item). all_items xs ++ is) (append-nil (piece_items p))
-
-pub back_more : (xs : List Piece) (p : Piece) → back_items (xs ++ p ∷ []) ≡ back_items xs ++ reverse (piece_items p)
-back_more xs p = ap (λ (ps : List Piece). reverse (all_items ps)) (reverse-append xs (p ∷ [])) ∙ reverse-append (piece_items p) (all_items (reverse xs))
+use Rattle.trie_change.proofs.PieceLists.{all_more, back_more}
 
 -- what comes later, in its order
 pub back_turned : (xs : List Piece) (p : Piece) → reverse (back_items (xs ++ p ∷ [])) ≡ piece_items p ++ reverse (back_items xs)
@@ -34,7 +29,7 @@ pub piece_moved : (found later less found2 : List Piece) (p : Piece) → later �
     → in_place (all_items found2) None (back_items less) ≡ in_place (all_items found) None (back_items later)
 piece_moved found later less found2 p e f =
     ap (λ (ps : List Piece). all_items ps ++ reverse (back_items less)) f
-    ∙ ap (λ (is : List Item). is ++ reverse (back_items less)) (items_more found p)
+    ∙ ap (λ (is : List Item). is ++ reverse (back_items less)) (all_more found p)
     ∙ append_assoc (all_items found) (piece_items p) (reverse (back_items less)) ∙ in_front found later less p e
 
 pub stub_wanted : (found later less : List Piece) (p : Piece) (s : Stub) → later ≡ less ++ p ∷ [] → p ≡ piece.Stub s
@@ -42,8 +37,8 @@ pub stub_wanted : (found later less : List Piece) (p : Piece) (s : Stub) → lat
 stub_wanted found later less p s e is = ap (λ (q : Piece). all_items found ++ (piece_items q ++ reverse (back_items less))) (sym is) ∙ in_front found later less p e
 
 -- what holds of all pieces, as one more comes or the last one goes
-pub all_more : {X : Type 0} (P : X → Type 0) (xs : List X) (x : X) → AllByRecursion P xs → P x → AllByRecursion P (xs ++ x ∷ [])
-all_more P xs x a p = all_joined P xs (x ∷ []) a (p, tt)
+pub one_more_holds : {X : Type 0} (P : X → Type 0) (xs : List X) (x : X) → AllByRecursion P xs → P x → AllByRecursion P (xs ++ x ∷ [])
+one_more_holds P xs x a p = all_joined P xs (x ∷ []) a (p, tt)
 
 pub all_less : {X : Type 0} (P : X → Type 0) (xs : List X) (x : X) → AllByRecursion P (xs ++ x ∷ []) → AllByRecursion P xs × P x
 all_less P xs x a = let parts : AllByRecursion P xs × AllByRecursion P (x ∷ []) = all_split P xs (x ∷ []) a in (parts.0, parts.1.0)
@@ -56,7 +51,7 @@ off_apart settings (piece.Siblings s) other a = a.off
 
 pub all_items_more : (P : Item → Type 0) (xs ys : List Piece) (p : Piece) → ys ≡ xs ++ p ∷ [] → AllByRecursion P (all_items xs) → AllByRecursion P (piece_items p)
     → AllByRecursion P (all_items ys)
-all_items_more P xs ys p e a b = subst (AllByRecursion P) (sym (ap all_items e ∙ items_more xs p)) (all_joined P (all_items xs) (piece_items p) a b)
+all_items_more P xs ys p e a b = subst (AllByRecursion P) (sym (ap all_items e ∙ all_more xs p)) (all_joined P (all_items xs) (piece_items p) a b)
 
 -- pieces come back to those that are later
 pub later_are : (later old both pieces : List Piece) → later ≡ old → both ≡ later ++ reverse pieces → back_items both ≡ back_items old ++ reverse (all_items pieces)

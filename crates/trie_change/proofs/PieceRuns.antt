@@ -1,5 +1,5 @@
 -- What is left of pieces and of siblings below one node, while the children come from the last nibble on.
-use Rattle.std.proofs.Common.{◌≡◌, ℕ, ◌≤◌, List, [], ◌++◌, length, take, drop, reverse, Option, All, ap, subst, sym, ◌∙◌, take-append-drop, length-take, arith}
+use Rattle.std.proofs.Common.{◌≡◌, ℕ, ◌≤◌, List, [], ◌++◌, length, take, drop, Option, All, ap, subst, sym, ◌∙◌, take-append-drop, length-take, arith}
 use Rattle.std.specs.Prelude.{IfSome, filter}
 use Rattle.std.proofs.lemmas.List.{append-nil}
 use Rattle.std.proofs.lemmas.List.Elements.{All-from_recursion}
@@ -77,7 +77,7 @@ module _ (at : ℕ) (items : List Piece) (first : Diff) (count : ℕ) (rest : Li
 
 pub all_have_come : (at : ℕ) (items : List Piece) (first : Diff) (count : ℕ) (rest : List Piece) (nodes : List Sibling) (children : List (Option (List ℕ))) (d : Diff)
     → AreComing at items first count rest nodes children d → count ≡ 16 → (b : ItemBranch at (all_items items)) (c : Comparison) → IsComparison first c
-    → (reverse children ≡ values_below b.group.suffixes b.group.path) × IsComparison d (after_nodes c (filter (is_made b.group.under) (nodes_below b.group.suffixes b.group.path)))
+    → (children ≡ values_below b.group.suffixes b.group.path) × IsComparison d (after_nodes c (filter (is_made b.group.under) (nodes_below b.group.suffixes b.group.path)))
 all_have_come at items first count rest nodes children d k all b c is =
     let so_far = k.coming b c is in
     all_come b c count (all_items rest ++ sibling_items so_far.end nodes) children d all so_far.coming

@@ -4,7 +4,6 @@ use Rattle.std.specs.Prelude.{IfSome}
 use Rattle.std.proofs.lemmas.List.{append-nil, map-append}
 use Rattle.std.proofs.lemmas.List.Concat.{flat_map-append}
 use Rattle.std.proofs.lemmas.List.Elements.{All-from_recursion, recursion_from_All}
-use Rattle.trie_root.proofs.ShapesBytes.{all_joined}
 use Rattle.trie_change.specs.Item.{Item}
 use Rattle.trie_change.specs.declared.diff.Diff.{Diff}
 use Rattle.trie_change.specs.declared.frontier.Piece.{Piece}
@@ -21,18 +20,18 @@ use Rattle.trie_change.proofs.PieceRuns.{AreComing}
 
 module _ (at : ℕ) (items : List Piece) (first : Diff) (count : ℕ) (rest : List Piece) (nodes : List Sibling) (children : List (Option (List ℕ))) (d : Diff)
     (k : AreComing at items first count rest nodes children d) where
-  one_more_fits : (more : List (Option (List ℕ))) (child : Option (List ℕ)) → more ≡ children ++ child ∷ [] → IfSome child IsShortValue → All (λ child. IfSome child IsShortValue) more
+  one_more_fits : (more : List (Option (List ℕ))) (child : Option (List ℕ)) → more ≡ child ∷ children → IfSome child IsShortValue → All (λ child. IfSome child IsShortValue) more
   one_more_fits more child e h =
       subst (λ (cs : List (Option (List ℕ))). All (λ child. IfSome child IsShortValue) cs) (sym e)
-      (All-from_recursion (λ child. IfSome child IsShortValue) (children ++ child ∷ [])
-      (all_joined (λ child. IfSome child IsShortValue) children (child ∷ []) (recursion_from_All (λ child. IfSome child IsShortValue) children k.fits) (h, tt)))
+      (All-from_recursion (λ child. IfSome child IsShortValue) (child ∷ children)
+      (h, recursion_from_All (λ child. IfSome child IsShortValue) children k.fits))
 
-  one_more_long : (more : List (Option (List ℕ))) (child : Option (List ℕ)) → more ≡ children ++ child ∷ [] → length more ≡ count + 1
-  one_more_long more child e = omega (arith, ap length e, length-append children (child ∷ []), k.so_many)
+  one_more_long : (more : List (Option (List ℕ))) (child : Option (List ℕ)) → more ≡ child ∷ children → length more ≡ count + 1
+  one_more_long more child e = omega (arith, ap length e, k.so_many)
 
   -- a sibling's hash
   pub hash_comes : (others : List Sibling) (last : Sibling) (more : List (Option (List ℕ))) → count < 16 → nodes ≡ others ++ last ∷ [] → last.nibble ≡ 15 - count
-      → length last.hash.0 ≤ 32 → more ≡ children ++ Some last.hash.0 ∷ [] → AreComing at items first (count + 1) rest others more d
+      → length last.hash.0 ≤ 32 → more ≡ Some last.hash.0 ∷ children → AreComing at items first (count + 1) rest others more d
   hash_comes others last more small parts nibble fits pushed = record {
     short = k.short;
     so_many = one_more_long more (Some last.hash.0) pushed;
@@ -58,7 +57,7 @@ module _ (at : ℕ) (items : List Piece) (first : Diff) (count : ℕ) (rest : Li
 
   -- none, where the last sibling left has another nibble
   pub none_comes : (others : List Sibling) (last : Sibling) (more : List (Option (List ℕ))) → count < 16 → nodes ≡ others ++ last ∷ [] → (last.nibble ≡ 15 - count → ⊥)
-      → more ≡ children ++ None ∷ [] → AreComing at items first (count + 1) rest nodes more d
+      → more ≡ None ∷ children → AreComing at items first (count + 1) rest nodes more d
   none_comes others last more small parts nibble pushed = record {
     short = k.short;
     so_many = one_more_long more None pushed;

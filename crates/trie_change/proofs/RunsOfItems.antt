@@ -24,20 +24,20 @@ use Rattle.trie_change.proofs.MadeValues.{stored_long, value_hashed}
 -- the child over some items is pushed, and what is made below it has come
 abbrev pub IsPushed : (at : ℕ) (run : List Item) (children more : List (Option (List ℕ))) (d e : Diff) → Type 0
 IsPushed at run children more d e = (g : ItemGroup at run) (k : Comparison) → IsComparison d k
-    → (more ≡ children ++ child_value node_of_all (below g.path g.suffixes) ∷ []) × IsComparison e (after_nodes k (filter (is_made g.under) (nodes_at g.suffixes g.path)))
+    → (more ≡ child_value node_of_all (below g.path g.suffixes) ∷ children) × IsComparison e (after_nodes k (filter (is_made g.under) (nodes_at g.suffixes g.path)))
 
 -- ---- no item
 
-pub nothing_there : (at : ℕ) (children more : List (Option (List ℕ))) (d : Diff) → more ≡ children ++ None ∷ [] → IsPushed at [] children more d d
+pub nothing_there : (at : ℕ) (children more : List (Option (List ℕ))) (d : Diff) → more ≡ None ∷ children → IsPushed at [] children more d d
 nothing_there at children more d pushed = λ g k is.
     let none : below g.path g.suffixes ≡ [] = nothing_with g.path (below g.path g.suffixes) g.whole in (
-      subst (λ (us : List Suffix). more ≡ children ++ child_value node_of_all us ∷ []) (sym none) pushed,
+      subst (λ (us : List Suffix). more ≡ child_value node_of_all us ∷ children) (sym none) pushed,
       subst (λ (us : List Suffix). IsComparison d (after_nodes k (filter (is_made g.under) (if_any (nodes_from g.path) us)))) (sym none) is,
     )
 
 -- ---- a stored node's hash
 
-pub sibling_there : (at : ℕ) (end : List ℕ) (s : Sibling) (children more : List (Option (List ℕ))) (d : Diff) → length end ≡ at → more ≡ children ++ Some s.hash.0 ∷ []
+pub sibling_there : (at : ℕ) (end : List ℕ) (s : Sibling) (children more : List (Option (List ℕ))) (d : Diff) → length end ≡ at → more ≡ Some s.hash.0 ∷ children
     → IsPushed (at + 1) (sibling_item end s ∷ []) children more d d
 sibling_there at end s children more d len pushed = λ g k is.
     let n : PathNode = node_of_group g in
@@ -45,7 +45,7 @@ sibling_there at end s children more d len pushed = λ g k is.
     let kept : IsMade k n (made_of_group g) d (made.Kept s.hash) = kept_stub (at + 1) _ [] g here k d is in
     let there : below g.path g.suffixes ≡ [] → ⊥ = group_some (at + 1) (sibling_item end s ∷ []) g (omega arith) (omega arith) in
     let long : 32 ≤ length n.bytes = stored_long n (longer_path (at + 1) (sibling_item end s ∷ []) g (omega arith)) kept.1 in (
-      pushed ∙ ap (λ (o : Option (List ℕ)). children ++ o ∷ [])
+      pushed ∙ ap (λ (o : Option (List ℕ)). o ∷ children)
           (ap (λ (v : List ℕ). Some v) (kept.0 ∙ sym (value_hashed n.bytes long)) ∙ sym (value_there (below g.path g.suffixes) there)),
       subst (λ (ns : List PathNode). IsComparison d (after_nodes k (filter (is_made g.under) ns))) (sym (any_there (nodes_from g.path) (below g.path g.suffixes) there)) kept.2,
     )

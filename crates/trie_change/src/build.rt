@@ -1,4 +1,4 @@
-ghost use Rattle.std.specs.Prelude.{◌≡◌, ◌≢◌, ℕ, suc, ◌+◌, ◌-◌, ◌<◌, ◌≤◌, List, [], ◌++◌, ◌∷◌, All, IfOk, IfSome, OnOk, Some, None, drop, filter, length, slice_index_or, take, true, false};
+ghost use Rattle.std.specs.Prelude.{◌≡◌, ◌≢◌, ℕ, suc, ◌+◌, ◌-◌, ◌<◌, ◌≤◌, List, [], ◌++◌, ◌∷◌, All, IfOk, IfSome, OnOk, Some, None, drop, filter, length, replicate, slice_index_or, take, true, false};
 ghost use Rattle.sdb_blake2.specs.Blake2b.{H};
 ghost use Rattle.trie_model.specs.Limits.{most_in_value};
 ghost use Rattle.trie_model.specs.Node.{IsPartial, merkle_value, spelling};
@@ -7,8 +7,8 @@ ghost use Rattle.trie_model.specs.Trie.{below, child_value, common, node_of_all}
 ghost use Rattle.trie_codec.specs.Parts.{node_with};
 ghost use Rattle.trie_codec.specs.Slices.{bytes_in};
 ghost use Rattle.trie_change.specs.Frontier.{IsLimited};
-ghost use Rattle.trie_change.specs.inner.Built.{FitsNode, IsMade, IsShortValue, ItemBranch, ItemGroup, is_made, made_of_group, node_of_group, nodes_at, nodes_below, values_below};
-ghost use Rattle.trie_change.specs.inner.Pieces.{IsCutAt, IsUncut, all_items, piece_hash, piece_path, piece_rank, piece_value, sibling_items};
+ghost use Rattle.trie_change.specs.inner.Built.{FitsNode, IsMade, IsNew, IsShortValue, ItemBranch, ItemGroup, is_made, made_of_group, node_of_group, nodes_at, nodes_below, values_below};
+ghost use Rattle.trie_change.specs.inner.Pieces.{IsCutAt, IsKeyAlone, IsUncut, all_items, piece_hash, piece_path, piece_rank, piece_value, sibling_items};
 ghost use Rattle.trie_change.specs.inner.Diffs.{AreShort, Comparison, IsComparison, after_nodes, most_in_node};
 
 use crate::diff::Diff;
@@ -16,7 +16,7 @@ use crate::frontier::{Piece, Sibling};
 use crate::in_order::path_of;
 use sdb_base::{Bytes, Nibbles, NodeHash, OutOfMemory};
 use std::alloc::Global;
-use trie_codec::{ChildList, MerkleValue, Plain, encode, encode_parts};
+use trie_codec::{ChildList, Plain, SpelledChildren, encode, encode_spelled};
 
 // A spelling of at least as many bytes is stored, and stands in the node above by its hash.
 const HASH_LEN: usize = 32;
@@ -93,127 +93,136 @@ fn made_of(alloc: Global, diff: &mut Diff, items: &[Piece], at: usize) -> Result
         return Ok(Made::Kept(hash));
     }
     let end = at + shared_of_ends(items, at);
-    let children = children_of(alloc, diff, items, end)?;
-    let bytes = spell_node(alloc, &items[0], at, end, children.as_slice())?;
-    Ok(Made::New(bytes))
+    if is_key_alone(items, end) {
+        return made_leaf(alloc, &items[0], at, end);
+    }
+    let mut children = SpelledChildren::new(alloc)?;
+    put_children(alloc, diff, items, end, &mut children)?;
+    made_node(alloc, &items[0], at, end, &children)
 }
 
-// The Merkle values of the children of the node whose partial key ends at `at` nibbles, one for each next nibble. They are
-// made from the last one on, so that stored nodes come from the highest path down.
+// Puts the Merkle values of the children of the node whose partial key ends at `at` nibbles, one for each next nibble. They
+// are made and spelled from the last one on, so that stored nodes come from the highest path down.
 #[cycle(nodes)]
-fn children_of(
+fn put_children(
     alloc: Global,
     diff: &mut Diff,
     items: &[Piece],
     at: usize,
-) -> Result<Vec<Option<MerkleValue>>, OutOfMemory>
+    children: &mut SpelledChildren,
+) -> Result<(), OutOfMemory>
     requires at { at ≤ 2048 }
     requires limited { All IsLimited (all_items items.now) }
     requires short { AreShort diff.old.puts.items }
+    requires none { children.old ≡ [] }
     ensures still_short { OnOk result (AreShort diff.new.puts.items) }
-    ensures sixteen { IfOk result (λ children. length children.items ≡ 16) }
-    ensures fits { IfOk result (λ children. All (λ child. IfSome child IsShortValue) children.items) }
+    ensures sixteen { OnOk result (length children.new ≡ 16) }
+    ensures fits { OnOk result (All (λ child. IfSome child IsShortValue) children.new) }
     ensures children { (b : ItemBranch at (all_items items.now)) (c : Comparison) → IsComparison diff.old c
-        → IfOk result (λ children. (children.items ≡ values_below b.group.suffixes b.group.path)
+        → OnOk result ((children.new ≡ values_below b.group.suffixes b.group.path)
         × IsComparison diff.new (after_nodes c (filter (is_made b.group.under) (nodes_below b.group.suffixes b.group.path)))) }
 {
-    let mut children = Vec::with_capacity(alloc, 16)?;
     let mut rest = items;
     let mut nodes: &[Sibling] = &[];
     for count in 0..16u8 {
         (rest, nodes) = left_here(rest, nodes, at);
         match nodes.split_last() {
             Some((last, others)) if last.nibble == 15 - count => {
-                push_hash(&mut children, &last.hash)?;
+                put_hash(children, &last.hash);
                 nodes = others;
             }
-            Some(_) => push_none(&mut children)?,
+            Some(_) => children.put_none(),
             None => {
                 let start = run_start(rest, at, 15 - count);
-                push_child(alloc, diff, &rest[start..], at + 1, &mut children)?;
+                put_child(alloc, diff, &rest[start..], at + 1, children)?;
                 rest = &rest[..start];
             }
         }
     }
-    children.reverse();
-    Ok(children)
+    Ok(())
 }
 
-// Adds the Merkle value of the node over items that agree in their first `at` nibbles, or None where there are none.
+// Whether there is one key and no more, which ends at `at` nibbles.
+fn is_key_alone(items: &[Piece], at: usize) -> bool
+    ensures { result ≡ true → IsKeyAlone at items.now }
+{
+    match items {
+        [Piece::Entry(entry)] => entry.path.as_slice().len() == at,
+        _ => false,
+    }
+}
+
+// Puts the Merkle value of the node over items that agree in their first `at` nibbles, or that there is none.
 #[cycle(nodes)]
-fn push_child(
+fn put_child(
     alloc: Global,
     diff: &mut Diff,
     items: &[Piece],
     at: usize,
-    children: &mut Vec<Option<MerkleValue>>,
+    children: &mut SpelledChildren,
 ) -> Result<(), OutOfMemory>
     requires at { 1 ≤ at }
     requires limited { All IsLimited (all_items items.now) }
     requires long { All (λ p. at ≤ length (piece_path p)) items.now }
     requires short { AreShort diff.old.puts.items }
+    requires few { length children.old < 16 }
     ensures still_short { OnOk result (AreShort diff.new.puts.items) }
-    ensures one { OnOk result (length children.new.items ≡ length children.old.items + 1) }
-    ensures fits { All (λ child. IfSome child IsShortValue) children.old.items → OnOk result (All (λ child. IfSome child IsShortValue) children.new.items) }
+    ensures one { OnOk result (length children.new ≡ length children.old + 1) }
+    ensures fits { All (λ child. IfSome child IsShortValue) children.old
+        → OnOk result (All (λ child. IfSome child IsShortValue) children.new) }
     ensures child { (g : ItemGroup at (all_items items.now)) (c : Comparison) → IsComparison diff.old c
-        → OnOk result ((children.new.items ≡ children.old.items ++ child_value node_of_all (below g.path g.suffixes) ∷ [])
+        → OnOk result ((children.new ≡ child_value node_of_all (below g.path g.suffixes) ∷ children.old)
         × IsComparison diff.new (after_nodes c (filter (is_made g.under) (nodes_at g.suffixes g.path)))) }
 {
     if items.is_empty() {
-        return push_none(children);
+        children.put_none();
+        return Ok(());
     }
     let made = made_of(alloc, diff, items, at)?;
-    push_value(diff, path_before(&items[0], at), made, children)
+    put_value(diff, path_before(&items[0], at), made, children)
 }
 
-// Adds no Merkle value.
-#[inline(never)]
-fn push_none(children: &mut Vec<Option<MerkleValue>>) -> Result<(), OutOfMemory>
-    ensures { OnOk result (children.new.items ≡ children.old.items ++ None ∷ []) }
-{
-    children.push(None)?;
-    Ok(())
-}
-
-// Adds a hash as a Merkle value.
-#[inline(never)]
-fn push_hash(children: &mut Vec<Option<MerkleValue>>, hash: &NodeHash) -> Result<(), OutOfMemory>
-    ensures pushed { OnOk result (children.new.items ≡ children.old.items ++ Some hash.now.0 ∷ []) }
+// Puts a hash as a Merkle value.
+fn put_hash(children: &mut SpelledChildren, hash: &NodeHash)
+    requires { length children.old < 16 }
+    ensures put { children.new ≡ Some hash.now.0 ∷ children.old }
     ensures short { IsShortValue hash.now.0 }
 {
-    children.push(Some(MerkleValue::of(&hash.0)))?;
-    Ok(())
+    children.put(&hash.0);
 }
 
-// Adds the Merkle value of a node below the root, which goes to the comparison if it is new and stored. What hashing and
+// Puts the Merkle value of a node below the root, which goes to the comparison if it is new and stored. What hashing and
 // values need on the stack stays out of the frames of the recursion, which may be 2,049 levels deep.
 #[inline(never)]
-fn push_value(
+fn put_value(
     diff: &mut Diff,
     path: &[u8],
     made: Made,
-    children: &mut Vec<Option<MerkleValue>>,
+    children: &mut SpelledChildren,
 ) -> Result<(), OutOfMemory>
     requires fits { FitsNode made }
     requires short { AreShort diff.old.puts.items }
+    requires few { length children.old < 16 }
     ensures still_short { OnOk result (AreShort diff.new.puts.items) }
-    ensures one { OnOk result (length children.new.items ≡ length children.old.items + 1) }
-    ensures fits { All (λ child. IfSome child IsShortValue) children.old.items → OnOk result (All (λ child. IfSome child IsShortValue) children.new.items) }
+    ensures one { OnOk result (length children.new ≡ length children.old + 1) }
+    ensures fits { All (λ child. IfSome child IsShortValue) children.old
+        → OnOk result (All (λ child. IfSome child IsShortValue) children.new) }
     ensures value { (n : PathNode) (all : List PathNode) (c : Comparison) → n.path ≡ path.now → (n.path ≢ [])
         → IsMade c n all diff.old made
-        → OnOk result ((children.new.items ≡ children.old.items ++ Some (merkle_value n.bytes) ∷ []) × IsComparison diff.new (after_nodes c all)) }
+        → OnOk result ((children.new ≡ Some (merkle_value n.bytes) ∷ children.old) × IsComparison diff.new (after_nodes c all)) }
 {
     match made {
-        Made::Kept(hash) => push_hash(children, &hash),
+        Made::Kept(hash) => put_hash(children, &hash),
         Made::New(bytes) => {
             if bytes.len() < HASH_LEN {
-                children.push(Some(MerkleValue::of(bytes.as_slice())))?;
+                children.put(bytes.as_slice());
                 return Ok(());
             }
             let hash = diff.emit(path, bytes)?;
-            push_hash(children, &hash)
+            put_hash(children, &hash);
         }
     }
+    Ok(())
 }
 
 // What is left of pieces and of siblings: where no sibling is left, the last piece's, if it is siblings that part after `at`
@@ -332,25 +341,41 @@ fn value_here(item: &Piece, at: usize) -> Option<&[u8]>
     }
 }
 
-// The spelling of the node over items that share what the first has from `at` to `end`; not inlined, as above.
+// The leaf of a key that is alone, which has `at` nibbles above it and ends at `end`; not inlined, as above.
 #[inline(never)]
-fn spell_node(
+fn made_leaf(alloc: Global, first: &Piece, at: usize, end: usize) -> Result<Made, OutOfMemory>
+    requires limited { IsPartial (piece_path first.now) }
+    requires value { IfSome (piece_value end first.now) (λ v. length v ≤ most_in_value) }
+    requires rises { at ≤ end }
+    requires end { end ≤ length (piece_path first.now) }
+    ensures fits { IfOk result FitsNode }
+    ensures spelled { IfOk result (IsNew
+        (spelling (node_with (take (end - at) (drop at (piece_path first.now))) (piece_value end first.now) (replicate 16 None)))) }
+{
+    let none = SpelledChildren::none(alloc);
+    made_node(alloc, first, at, end, &none)
+}
+
+// The node over items that share what the first has from `at` to `end`; not inlined, as above.
+#[inline(never)]
+fn made_node(
     alloc: Global,
     first: &Piece,
     at: usize,
     end: usize,
-    children: &[Option<MerkleValue>],
-) -> Result<Bytes, OutOfMemory>
+    children: &SpelledChildren,
+) -> Result<Made, OutOfMemory>
     requires limited { IsPartial (piece_path first.now) }
     requires value { IfSome (piece_value end first.now) (λ v. length v ≤ most_in_value) }
     requires rises { at ≤ end }
     requires end { end ≤ length (piece_path first.now) }
     requires sixteen { length children.now ≡ 16 }
     requires short { All (λ child. IfSome child IsShortValue) children.now }
-    ensures fits { IfOk result (λ bytes. length bytes ≤ most_in_node) }
-    ensures spelled { IfOk result (λ bytes. bytes
-        ≡ spelling (node_with (take (end - at) (drop at (piece_path first.now))) (piece_value end first.now) children.now)) }
+    ensures fits { IfOk result FitsNode }
+    ensures spelled { IfOk result (IsNew
+        (spelling (node_with (take (end - at) (drop at (piece_path first.now))) (piece_value end first.now) children.now))) }
 {
     let partial = &path_of(first)[at..end];
-    encode_parts(alloc, partial, value_here(first, end), children)
+    let bytes = encode_spelled(alloc, partial, value_here(first, end), children)?;
+    Ok(Made::New(bytes))
 }

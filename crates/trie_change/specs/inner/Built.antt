@@ -126,6 +126,11 @@ abbrev pub FitsNode : Made → Type 0
 FitsNode (made.Kept hash) = Unit {0}
 FitsNode (made.New bytes) = length bytes ≤ most_in_node
 
+-- a new node of these bytes
+abbrev pub IsNew : List ℕ → Made → Type 0
+IsNew bytes (made.Kept hash) = ⊥
+IsNew bytes (made.New other) = other ≡ bytes
+
 -- a Merkle value
 abbrev pub IsShortValue : List ℕ → Type 0
 IsShortValue value = length value ≤ 32

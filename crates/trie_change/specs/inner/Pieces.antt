@@ -8,6 +8,7 @@ use Rattle.sdb_base.specs.declared.node.NodeHash.{NodeHash}
 use Rattle.trie_change.specs.Frontier.{item_path}
 use Rattle.trie_change.specs.Item.{Item}
 use Rattle.trie_change.specs.Item as item
+use Rattle.trie_change.specs.declared.frontier.Entry.{Entry}
 use Rattle.trie_change.specs.declared.frontier.Piece.{Piece}
 use Rattle.trie_change.specs.declared.frontier.Piece.TheVariants as piece
 use Rattle.trie_change.specs.declared.frontier.Sibling.{Sibling}
@@ -73,6 +74,10 @@ pub record IsCutAt (at : ℕ) (pieces rest : List Piece) (nodes : List Sibling) 
   pub len : length end ≡ at
   pub whole : all_items pieces ≡ all_items rest ++ sibling_items end nodes
   pub fewer : length rest ≤ length pieces
+
+-- one key and no more, with so many nibbles
+abbrev pub IsKeyAlone : ℕ → List Piece → Type 0
+IsKeyAlone at pieces = (e : Entry) × (pieces ≡ piece.Entry e ∷ []) × (length e.path.items ≡ at)
 
 -- a piece that is no siblings whose paths part after so many nibbles
 abbrev pub IsUncut : ℕ → Piece → Type 0

@@ -3,7 +3,7 @@ use Rattle.std.specs.List.{AllByRecursion}
 use Rattle.trie_change.specs.inner.InOrder.{IsOff}
 use Rattle.trie_change.specs.inner.Pieces.{IsAside}
 use Rattle.trie_change.specs.declared.frontier.Piece.{Piece}
-use Rattle.trie_change.proofs.PieceMoves.{all_items_more, all_less, all_more, off_apart, piece_moved}
+use Rattle.trie_change.proofs.PieceMoves.{all_items_more, all_less, off_apart, one_more_holds, piece_moved}
 use Rattle.trie_change.proofs.in_order.move_to_set.Goals as goal
 
 pub loop-piece-preserved : goal.loop-piece-preserved
@@ -22,7 +22,7 @@ loop-piece-preserved c =
       off = λ rising a b. all_items_more (IsOff ss) found c.push_reserved-in_default-piece.new.self.items p c.push_reserved-in_default-piece.ensures.items
           (c.loop-piece.invariant.off rising a b) (off_apart ss p c.in_default-piece.not-Stub (last (c.loop-piece.invariant.later_apart b)).1);
       found_apart = λ a b. subst (AllByRecursion (IsAside ss)) (sym c.push_reserved-in_default-piece.ensures.items)
-          (all_more (IsAside ss) found p (c.loop-piece.invariant.found_apart a b) (last (c.loop-piece.invariant.later_apart b)).1);
+          (one_more_holds (IsAside ss) found p (c.loop-piece.invariant.found_apart a b) (last (c.loop-piece.invariant.later_apart b)).1);
       later_apart = λ b. (last (c.loop-piece.invariant.later_apart b)).0;
       capacity = c.push_reserved-in_default-piece.ensures.capacity ∙ c.loop-piece.invariant.capacity;
       later_capacity = c.in-Some.ensures.capacity ∙ c.loop-piece.invariant.later_capacity;
