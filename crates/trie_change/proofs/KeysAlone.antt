@@ -15,7 +15,7 @@ use Rattle.trie_change.specs.inner.Diffs.{Comparison, IsComparison, after_nodes}
 use Rattle.trie_change.specs.inner.Pieces.{IsKeyAlone, all_items}
 use Rattle.trie_change.proofs.ItemSuffixes.{below_with}
 
-same_number : (n : ℕ) → (n == n) ≡ true
+pub same_number : (n : ℕ) → (n == n) ≡ true
 same_number n = grind arith
 
 -- a path doesn't go on with itself and more

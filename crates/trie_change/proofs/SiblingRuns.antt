@@ -53,10 +53,3 @@ run_added settings end i nodes s at off r =
       within = all_joined (IsWithin r.from (i + 1)) nodes (s ∷ []) (wider r.from i nodes r.within) ((omega (arith, at), omega (arith, at)), tt);
       unset = unset_longer settings end r.from i off r.unset;
     }
-
--- a child that isn't in a run ends it, or has nothing and is none that a key goes on with
-pub run_after : (settings : List Setting) (end : List ℕ) (i : ℕ) (nodes rest : List Sibling) (is_set : Bool) → begins_one settings (end ++ i ∷ []) ≡ is_set
-    → (rest ≡ []) ⊎ ((rest ≡ nodes) × (is_set ≡ false)) → IsRun settings end i nodes → IsRun settings end (i + 1) rest
-run_after settings end i nodes rest is_set set (inl none) r = subst (λ (ss : List Sibling). IsRun settings end (i + 1) ss) (sym none) (run_none settings end (i + 1))
-run_after settings end i nodes rest is_set set (inr same) r =
-    subst (λ (ss : List Sibling). IsRun settings end (i + 1) ss) (sym same.0) (run_longer settings end i nodes (set ∙ same.1) r)

@@ -284,6 +284,9 @@ fn shared_of_ends(items: &[Piece], at: usize) -> usize
         (drop at (piece_path (slice_index_or items.now (length items.now - 1) d)))) }
 {
     let first = path_of(&items[0]);
+    if items.len() == 1 {
+        return first.len().saturating_sub(at);
+    }
     let last = path_of(&items[items.len() - 1]);
     shared_len(first, last, at)
 }

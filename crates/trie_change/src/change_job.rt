@@ -29,21 +29,6 @@ pub struct ChangeJob {
 // A change of a few keys fetches and knows of about so many nodes, so that nothing needs to grow.
 const FIRST_ROOM: usize = 48;
 
-// A node that was fed.
-fn fed_of(alloc: Global, wanted: &Stub, bytes: &[u8]) -> Result<Fed, OutOfMemory>
-    ensures path { IfOk result (λ f. f.path.items ≡ wanted.now.path.items) }
-    ensures hash { IfOk result (λ f. f.hash ≡ wanted.now.hash) }
-    ensures bytes { IfOk result (λ f. f.bytes ≡ bytes.now) }
-{
-    let path = SmallVec::from_slice(alloc, wanted.path.as_slice())?;
-    let bytes = Bytes::from_slice(alloc, bytes)?;
-    Ok(Fed {
-        path,
-        hash: wanted.hash,
-        bytes,
-    })
-}
-
 impl ChangeJob {
     ghost use Rattle.std.specs.Prelude.{◌≡◌, ◌+◌, ◌≤◌, ◌<◌, ◌^◌, ℕ, true, false, List, ◌∷◌, ◌++◌, [], None, Some, Ok, length, reverse, All, IfOk, OnOk, OnErr, IfErr, IfSome, is_some, vec_len, vec_capacity};
     ghost use Rattle.std.specs.Option.{option_map};
@@ -155,21 +140,22 @@ impl ChangeJob {
             unreachable!()
         };
         let hash = wanted.hash;
-        let Some(node) = read_node(wanted.path.len(), bytes) else {
+        let read = read_node(wanted.path.len(), bytes);
+        let Some(node) = &read else {
             return Err(TrieFault::BadNode { hash });
         };
         let Ok(pieces) = pieces_of(
             self.alloc,
             self.settings.as_slice(),
             wanted.path.as_slice(),
-            &node,
+            node,
         ) else {
             return Err(TrieFault::OutOfMemory);
         };
-        let Ok(fed) = fed_of(self.alloc, wanted, bytes) else {
+        let Ok(bytes) = Bytes::from_slice(self.alloc, bytes) else {
             return Err(TrieFault::OutOfMemory);
         };
-        let Ok(()) = self.take(pieces, fed) else {
+        let Ok(()) = self.take(pieces, bytes) else {
             return Err(TrieFault::OutOfMemory);
         };
         Ok(())
@@ -186,14 +172,15 @@ impl ChangeJob {
             .checked_add(more)
     }
 
-    // Takes what the wanted node has in its place. An `Err` changes nothing.
-    fn take(&mut self, mut pieces: Vec<Piece>, fed: Fed) -> Result<(), OutOfMemory>
+    // Takes what the wanted node, of these bytes, has in its place. An `Err` changes nothing.
+    fn take(&mut self, mut pieces: Vec<Piece>, bytes: Bytes) -> Result<(), OutOfMemory>
+        requires wanted { is_some (change_wanted self.old) ≡ true }
         requires limits { KeepsLimits self.old }
         requires limited { AllByRecursion IsLimited (all_items pieces.items) }
         requires apart { AllByRecursion (IsAside self.old.settings.items) pieces.items }
         ensures limits { KeepsLimits self.new }
         ensures taken { (m : State) (changes : List Change) (n : PathNode) (todo : List PathNode) (s : Stub) (node : Node)
-            → IsChanging self.old m changes (n ∷ todo) → self.old.wanted ≡ Some s → fed.path.items ≡ s.path.items → fed.hash ≡ s.hash → fed.bytes ≡ n.bytes
+            → IsChanging self.old m changes (n ∷ todo) → self.old.wanted ≡ Some s → bytes ≡ n.bytes
             → node_of_bytes n.bytes ≡ Ok node → all_known (all_items pieces.items) ≡ known_in 33 node s.path.items
             → OnOk result (IsChanging self.new m changes todo) }
         ensures err { OnErr result (self.new ≡ self.old) }
@@ -210,8 +197,10 @@ impl ChangeJob {
         move_over(&mut self.found, found);
         move_over(&mut self.later, later);
         move_over(&mut self.fed, others);
-        self.wanted = None;
-        self.fed.push_reserved(fed);
+        let Some(Stub { path, hash }) = self.wanted.take() else {
+            unreachable!()
+        };
+        self.fed.push_reserved(Fed { path, hash, bytes });
         move_all(&mut pieces, &mut self.later);
         self.go_on();
         Ok(())

@@ -12,7 +12,7 @@ use crate::settings::{Setting, nibbles_set};
 use sdb_base::{Bytes, NodeHash, OutOfMemory};
 use smallvec::SmallVec;
 use std::alloc::Global;
-use trie_codec::{ChildRef, NodeRef};
+use trie_codec::{ChildRef, Kind, NodeRef};
 
 /// A node and the inline ones in it are at most so many, one below the other, since an inline one has fewer than 32 bytes.
 const MOST_LEVELS: u8 = 33;
@@ -170,15 +170,15 @@ fn put_run(
 }
 
 // The hash of a child that is off the way to all keys that are set, and not deeper than a key goes.
-fn sibling_at(node: &NodeRef, end: &[u8], nibble: u8, is_set: bool) -> Option<Sibling>
-    requires { nibble < 16 }
+fn sibling_at(child: ChildRef, end: &[u8], nibble: u8, is_set: bool) -> Option<Sibling>
+    requires { HasItsSize child }
     ensures some { IfSome result (λ s. (s.nibble ≡ nibble) × (is_set ≡ false) × (length end.now + 1 ≤ 2048)
-        × (slice_index_or (node_of_ref node.now).children nibble None ≡ Some s.hash.0) × (length s.hash.0 ≡ 32)) }
+        × (child_bytes child.entry ≡ Some s.hash.0) × (length s.hash.0 ≡ 32)) }
 {
     if is_set || end.len() >= MOST_NIBBLES {
         return None;
     }
-    match node.child(nibble) {
+    match child {
         ChildRef::Hashed(hash) => Some(Sibling {
             nibble,
             hash: NodeHash(hash_of(hash)),
@@ -198,33 +198,24 @@ fn push_sibling(run: &mut Vec<Sibling>, sibling: Sibling) -> Result<(), OutOfMem
     Ok(())
 }
 
-// Ends a run of siblings before a child, and adds what there is at the child. The run goes on where there is nothing and no
-// key that is set goes on with the nibble.
+// Ends a run of siblings before a child, and adds what there is at the child.
 fn put_after_run(
     alloc: Global,
     end: &[u8],
     nibble: u8,
     child: ChildRef,
-    is_set: bool,
     run: Vec<Sibling>,
     out: &mut Vec<Piece>,
-) -> Result<Vec<Sibling>, OutOfMemory>
+) -> Result<(), OutOfMemory>
     requires { HasItsSize child }
-    ensures known { IfOk result (λ rest. all_known (all_items out.new.items) ++ all_known (sibling_items end.now rest.items)
+    ensures known { OnOk result (all_known (all_items out.new.items)
         ≡ (all_known (all_items out.old.items) ++ all_known (sibling_items end.now run.items))
         ++ known_at (known_in 32) (end.now ++ nibble ∷ []) (child_bytes child.entry)) }
     ensures apart { (settings : List Setting) → AreAside settings (sibling_items end.now run.items)
         → AllByRecursion (IsAside settings) out.old.items → OnOk result (AllByRecursion (IsAside settings) out.new.items) }
-    ensures rest { IfOk result (λ rest. (rest.items ≡ []) ⊎ ((rest.items ≡ run.items) × (is_set ≡ false))) }
 {
-    if !is_set {
-        if let ChildRef::None = child {
-            return Ok(run);
-        }
-    }
     put_run(alloc, end, run, out)?;
-    put_child(alloc, MOST_LEVELS - 1, end, nibble, child, out)?;
-    Ok(Vec::new(alloc))
+    put_child(alloc, MOST_LEVELS - 1, end, nibble, child, out)
 }
 
 /// What a node has whose path this is, and the inline nodes in it, in the order of keys.
@@ -239,17 +230,28 @@ pub(crate) fn pieces_of(
 {
     let end = end_of(alloc, path, node)?;
     let end = end.as_slice();
-    let set = nibbles_set(settings, end);
     let mut pieces = Vec::new(alloc);
     put_own(alloc, end, node.value(), &mut pieces)?;
+    let Kind::Branch = node.kind() else {
+        return Ok(pieces);
+    };
+    let set = nibbles_set(settings, end);
     let mut run = Vec::new(alloc);
     for i in 0..16u8 {
+        let child = node.child(i);
         let is_set = set[i as usize];
-        if let Some(sibling) = sibling_at(node, end, i, is_set) {
+        // A run goes on where there is nothing and no key that is set goes on with the nibble.
+        if !is_set {
+            if let ChildRef::None = child {
+                continue;
+            }
+        }
+        if let Some(sibling) = sibling_at(child, end, i, is_set) {
             push_sibling(&mut run, sibling)?;
             continue;
         }
-        run = put_after_run(alloc, end, i, node.child(i), is_set, run, &mut pieces)?;
+        put_after_run(alloc, end, i, child, run, &mut pieces)?;
+        run = Vec::new(alloc);
     }
     put_run(alloc, end, run, &mut pieces)?;
     Ok(pieces)

@@ -4,6 +4,7 @@ pub mod Hanging
 pub mod Stored
 pub mod OneNode
 pub mod Children
+pub mod Childless
 pub mod Balance
 pub mod Sound
 pub mod Binding

@@ -8,7 +8,7 @@ ghost use Rattle.trie_codec.specs.Slices.{bytes_in};
 ghost use Rattle.trie_read.specs.Depth.{child_too_deep, is_bad_node, is_long_value, too_deep};
 ghost use Rattle.trie_read.specs.inner.Descent.{FitsKey, IsSized, outcome_of, way_down};
 
-use trie_codec::{ChildRef, NodeRef};
+use trie_codec::{ChildRef, Kind, NodeRef};
 
 /// A node's path and its partial key have at most so many nibbles together.
 const MOST_NIBBLES: usize = 2048;
@@ -102,6 +102,9 @@ fn hangs_too_deep(levels: u8, at: usize, node: &NodeRef) -> bool
     if at > MOST_NIBBLES || len > MOST_NIBBLES - at || is_long(node.value()) {
         return true;
     }
+    let Kind::Branch = node.kind() else {
+        return false;
+    };
     for i in 0..16u8 {
         if is_child_too_deep(levels - 1, at + len + 1, node.child(i)) {
             return true;
@@ -131,16 +134,17 @@ pub fn read_node(at: usize, bytes: &[u8]) -> Option<NodeRef<'_>>
     ensures good { is_some result ≡ not (is_bad_node at bytes.entry.now) }
     ensures node { IfSome result (λ r. node_of_bytes bytes.entry.now ≡ Ok (node_of_ref r)) }
 {
-    let Ok(node) = NodeRef::read(bytes) else {
+    let read = NodeRef::read(bytes);
+    let Ok(node) = &read else {
         return None;
     };
     if at > MOST_NIBBLES {
         return None;
     }
-    if hangs_too_deep(MOST_LEVELS, at, &node) || (at > 0 && bytes == [0].as_slice()) {
+    if hangs_too_deep(MOST_LEVELS, at, node) || (at > 0 && bytes == [0].as_slice()) {
         return None;
     }
-    Some(node)
+    Some(*node)
 }
 
 // A hash in a node.

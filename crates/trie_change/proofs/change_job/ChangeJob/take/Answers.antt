@@ -1,5 +1,8 @@
-use Rattle.std.proofs.Common.{◌≡◌, List, [], ◌∷◌, ◌++◌, None, Some, Option, ap, reverse, subst, sym, ◌∙◌, arith}
+use Rattle.std.proofs.Common.{◌≡◌, ℕ, List, [], ◌∷◌, ◌++◌, None, Some, Option, ap, reverse, subst, sym, ◌∙◌, arith}
 use Rattle.std.specs.List.{AllByRecursion}
+use Rattle.std.specs.Prelude.{IfSome}
+use Rattle.sdb_base.specs.declared.node.NodeHash.{NodeHash}
+use Rattle.trie_model.specs.Node.{IsPartial}
 use Rattle.trie_root.proofs.ShapesBytes.{all_joined}
 use Rattle.trie_change.specs.Frontier.{IsLimited}
 use Rattle.trie_change.specs.declared.frontier.Fed.{Fed}
@@ -31,7 +34,7 @@ go_on-requires-clause-limits c = record {
   settings = c.requires.limits.settings;
   rising = c.requires.limits.rising;
   found = subst (λ (ps : List Piece). AllByRecursion IsLimited (all_items ps)) (sym c.move_over.ensures.items) c.requires.limits.found;
-  wanted = tt;
+  wanted = subst (λ (o : Option Stub). IfSome o (λ (s : Stub). IsPartial s.path.items)) (sym c.take.ensures.after) tt;
   later = subst (AllByRecursion IsLimited) (sym (later_are c.move_over-2.new.items.items c.args.self.now.later.items c.move_all.new.later.items c.args.pieces.items c.move_over-2.ensures.items c.move_all.ensures.items))
       (all_joined IsLimited (back_items c.args.self.now.later.items) (reverse (all_items c.args.pieces.items)) c.requires.limits.later (all_reversed IsLimited (all_items c.args.pieces.items) c.requires.limited));
   found_apart = subst (AllByRecursion (IsAside c.args.self.now.settings.items)) (sym c.move_over.ensures.items) c.requires.limits.found_apart;
@@ -41,19 +44,33 @@ go_on-requires-clause-limits c = record {
       (all_reversed (IsAside c.args.self.now.settings.items) c.args.pieces.items c.requires.apart));
 }
 
+abbrev path_at : Option Stub → List ℕ
+path_at None = []
+path_at (Some s) = s.path.items
+
+abbrev hash_at : NodeHash → Option Stub → NodeHash
+hash_at none None = none
+hash_at none (Some s) = s.hash
+
 pub returns-clause-taken : goal.returns-clause-taken
-returns-clause-taken c = λ m changes n todo s node changing is path hash bytes read known.
+returns-clause-taken c = λ m changes n todo s node changing is bytes read known.
     let j = c.args.self.now in
+    let f : Fed = record { path = c.in-Some-take.field-0.path; hash = c.in-Some-take.field-0.hash; bytes = c.args.bytes } in
+    let same : Some c.in-Some-take.field-0 ≡ Some s = sym c.in-Some-take.is ∙ c.take.ensures.value ∙ is in
+    let path : f.path.items ≡ s.path.items = ap path_at same in
+    let hash : f.hash ≡ s.hash = ap (hash_at f.hash) same in
     let before : IsUnderWay j.settings.items (with_wanted j.settings.items j.fed.items (Some s) (all_items j.found.items) (back_items j.later.items)) m changes (n ∷ todo) =
     subst (λ (o : Option Stub). IsUnderWay j.settings.items (with_wanted j.settings.items j.fed.items o (all_items j.found.items) (back_items j.later.items)) m changes (n ∷ todo)) is changing.stage.under_way in
-    let after : IsUnderWay j.settings.items (with_wanted j.settings.items (j.fed.items ++ c.args.fed ∷ []) None (all_items j.found.items) (back_items c.move_all.new.later.items)) m changes todo =
-    taken m changes changing.within j.fed.items (all_items j.found.items) (back_items j.later.items) s n todo c.args.fed (all_items c.args.pieces.items) (back_items c.move_all.new.later.items) node path hash bytes read known
+    let after : IsUnderWay j.settings.items (with_wanted j.settings.items (j.fed.items ++ f ∷ []) None (all_items j.found.items) (back_items c.move_all.new.later.items)) m changes todo =
+    taken m changes changing.within j.fed.items (all_items j.found.items) (back_items j.later.items) s n todo f (all_items c.args.pieces.items) (back_items c.move_all.new.later.items) node path hash bytes read known
     (later_are c.move_over-2.new.items.items j.later.items c.move_all.new.later.items c.args.pieces.items c.move_over-2.ensures.items c.move_all.ensures.items) j.settings.items j.settings.items before in
-    let fed_are : c.push_reserved.new.self.items ≡ j.fed.items ++ c.args.fed ∷ [] =
-    c.push_reserved.ensures.items ∙ ap (λ (fs : List Fed). fs ++ c.args.fed ∷ []) c.move_over-3.ensures.items in
+    let fed_are : c.push_reserved.new.self.items ≡ j.fed.items ++ f ∷ [] =
+    c.push_reserved.ensures.items ∙ ap (λ (fs : List Fed). fs ++ f ∷ []) c.move_over-3.ensures.items in
     let there : IsUnderWay j.settings.items (with_wanted j.settings.items c.push_reserved.new.self.items None (all_items c.move_over.new.items.items) (back_items c.move_all.new.later.items)) m changes todo =
     subst (λ (fs : List Fed). IsUnderWay j.settings.items (with_wanted j.settings.items fs None (all_items c.move_over.new.items.items) (back_items c.move_all.new.later.items)) m changes todo) (sym fed_are)
-    (subst (λ (ps : List Piece). IsUnderWay j.settings.items (with_wanted j.settings.items (j.fed.items ++ c.args.fed ∷ []) None (all_items ps) (back_items c.move_all.new.later.items)) m changes todo)
+    (subst (λ (ps : List Piece). IsUnderWay j.settings.items (with_wanted j.settings.items (j.fed.items ++ f ∷ []) None (all_items ps) (back_items c.move_all.new.later.items)) m changes todo)
     (sym c.move_over.ensures.items) after) in
-    let stage : IsFedSoFar c.go_on.new.self m changes todo = c.go_on.ensures.stage m changes todo there in
+    let stage : IsFedSoFar c.go_on.new.self m changes todo = c.go_on.ensures.stage m changes todo
+    (subst (λ (o : Option Stub). IsUnderWay j.settings.items (with_wanted j.settings.items c.push_reserved.new.self.items o (all_items c.move_over.new.items.items) (back_items c.move_all.new.later.items)) m changes todo)
+    (sym c.take.ensures.after) there) in
     record { within = changing.within; changes_within = changing.changes_within; wants = wants_of c.go_on.new.self m changes todo changing.within stage; stage = stage }
