@@ -187,12 +187,12 @@ fn sibling_at(child: ChildRef, end: &[u8], nibble: u8, is_set: bool) -> Option<S
     }
 }
 
-// Adds a sibling to a run. The first makes room for as many as a node can have.
+// Adds a sibling to a run. The first makes room for as many as can follow it in a node.
 fn push_sibling(run: &mut Vec<Sibling>, sibling: Sibling) -> Result<(), OutOfMemory>
     ensures { OnOk result (run.new.items ≡ run.old.items ++ sibling ∷ []) }
 {
     if run.is_empty() {
-        run.reserve(16)?;
+        run.reserve(16usize.saturating_sub(sibling.nibble as usize))?;
     }
     run.push(sibling)?;
     Ok(())
