@@ -9,7 +9,8 @@ use crate::settings::{Setting, carry_out, move_all, settings_of};
 use sdb_base::{Bytes, Changes, NodeHash, OutOfMemory};
 use smallvec::SmallVec;
 use std::alloc::{AllocError, Global};
-use trie_read::{TrieFault, read_node};
+use trie_codec::NodeRef;
+use trie_read::{TrieFault, is_bad_below};
 
 /// A change of a state by its trie's nodes.
 #[derive(Debug, Drop)]
@@ -140,10 +141,13 @@ impl ChangeJob {
             unreachable!()
         };
         let hash = wanted.hash;
-        let read = read_node(wanted.path.len(), bytes);
-        let Some(node) = &read else {
+        let read = NodeRef::read(bytes);
+        let Ok(node) = &read else {
             return Err(TrieFault::BadNode { hash });
         };
+        if is_bad_below(wanted.path.len(), bytes, node) {
+            return Err(TrieFault::BadNode { hash });
+        }
         let Ok(pieces) = pieces_of(
             self.alloc,
             self.settings.as_slice(),

@@ -180,7 +180,7 @@ inline_deep deep c n h e = let short : nat_lt (length c) 32 ≡ true = grind ari
 pub inline_unread : (deep : Node → Bool) (c : List ℕ) (f : CodecFault) → length c < 32 → node_of_bytes c ≡ Err f → false ≡ child_too_deep deep (Some c)
 inline_unread deep c f h e = let short : nat_lt (length c) 32 ≡ true = grind arith in rw (short, e) refl
 
-pub far_is_bad : (at : ℕ) (bytes : List ℕ) (n : Node) → node_of_bytes bytes ≡ Ok n → 2048 < at → false ≡ not (is_bad_node at bytes)
+pub far_is_bad : (at : ℕ) (bytes : List ℕ) (n : Node) → node_of_bytes bytes ≡ Ok n → 2048 < at → true ≡ is_bad_node at bytes
 far_is_bad at bytes n e h =
     let deep : true ≡ too_deep 33 at n = deep_here 33 at n (omega arith) (past at (length n.partial) (is_long_value n.value) (omega arith)) in
-    rw e (ap (λ b. not (b || (nat_lt 0 at && is_nothing bytes))) deep)
+    rw e (ap (λ b. b || (nat_lt 0 at && is_nothing bytes)) deep)

@@ -129,22 +129,31 @@ fn is_child_too_deep(levels: u8, at: usize, child: ChildRef) -> bool
     }
 }
 
+/// Whether a node that bytes spell is bad where it hangs after `at` nibbles: it or an inline one in it goes past the limits of a
+/// key or a value, or it is the node of the empty trie below a root.
+pub fn is_bad_below(at: usize, bytes: &[u8], node: &NodeRef) -> bool
+    requires node { IsNode (node_of_ref node.now) }
+    requires read { node_of_bytes bytes.now ≡ Ok (node_of_ref node.now) }
+    ensures { result ≡ is_bad_node at bytes.now }
+{
+    if at > MOST_NIBBLES {
+        return true;
+    }
+    hangs_too_deep(MOST_LEVELS, at, node) || (at > 0 && bytes == [0].as_slice())
+}
+
 /// The node that bytes spell where it hangs after `at` nibbles, unless they are bad.
 pub fn read_node(at: usize, bytes: &[u8]) -> Option<NodeRef<'_>>
     ensures good { is_some result ≡ not (is_bad_node at bytes.entry.now) }
     ensures node { IfSome result (λ r. node_of_bytes bytes.entry.now ≡ Ok (node_of_ref r)) }
 {
-    let read = NodeRef::read(bytes);
-    let Ok(node) = &read else {
+    let Ok(node) = NodeRef::read(bytes) else {
         return None;
     };
-    if at > MOST_NIBBLES {
+    if is_bad_below(at, bytes, &node) {
         return None;
     }
-    if hangs_too_deep(MOST_LEVELS, at, node) || (at > 0 && bytes == [0].as_slice()) {
-        return None;
-    }
-    Some(*node)
+    Some(node)
 }
 
 // A hash in a node.

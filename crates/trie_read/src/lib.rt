@@ -21,7 +21,7 @@ mod parts;
 mod read_job;
 mod walk_job;
 
-pub use descent::read_node;
+pub use descent::{is_bad_below, read_node};
 pub use fault::TrieFault;
 pub use laws::{
     a_key_goes_down_one_child, a_root_binds, a_value_is_at_the_end_of_its_key,
