@@ -176,6 +176,37 @@ impl ChangeJob {
             .checked_add(more)
     }
 
+    // Makes room for so many pieces more and for one more fed node. An `Err` changes nothing.
+    fn make_room(&mut self, more: usize) -> Result<(), OutOfMemory>
+        ensures settings { self.new.settings ≡ self.old.settings }
+        ensures wanted { self.new.wanted ≡ self.old.wanted }
+        ensures fed { self.new.fed.items ≡ self.old.fed.items }
+        ensures found { self.new.found.items ≡ self.old.found.items }
+        ensures later { self.new.later.items ≡ self.old.later.items }
+        ensures room { OnOk result (HasPlaces more self.new × (vec_len self.new.fed + 1 ≤ vec_capacity self.new.fed)) }
+        ensures err { OnErr result (self.new ≡ self.old) }
+    {
+        let Some(most) = self.most_with(more) else {
+            return Err(AllocError);
+        };
+        let Some(most_fed) = self.fed.len().checked_add(1) else {
+            return Err(AllocError);
+        };
+        if most <= self.found.capacity()
+            && most <= self.later.capacity()
+            && most_fed <= self.fed.capacity()
+        {
+            return Ok(());
+        }
+        let found = larger(self.alloc, &self.found, most)?;
+        let later = larger(self.alloc, &self.later, most)?;
+        let others = larger(self.alloc, &self.fed, most_fed)?;
+        move_over(&mut self.found, found);
+        move_over(&mut self.later, later);
+        move_over(&mut self.fed, others);
+        Ok(())
+    }
+
     // Takes what the wanted node, of these bytes, has in its place. An `Err` changes nothing.
     fn take(&mut self, mut pieces: Vec<Piece>, bytes: Bytes) -> Result<(), OutOfMemory>
         requires wanted { is_some (change_wanted self.old) ≡ true }
@@ -189,18 +220,7 @@ impl ChangeJob {
             → OnOk result (IsChanging self.new m changes todo) }
         ensures err { OnErr result (self.new ≡ self.old) }
     {
-        let Some(most) = self.most_with(pieces.len()) else {
-            return Err(AllocError);
-        };
-        let Some(most_fed) = self.fed.len().checked_add(1) else {
-            return Err(AllocError);
-        };
-        let found = larger(self.alloc, &self.found, most)?;
-        let later = larger(self.alloc, &self.later, most)?;
-        let others = larger(self.alloc, &self.fed, most_fed)?;
-        move_over(&mut self.found, found);
-        move_over(&mut self.later, later);
-        move_over(&mut self.fed, others);
+        self.make_room(pieces.len())?;
         let Some(Stub { path, hash }) = self.wanted.take() else {
             unreachable!()
         };

@@ -137,10 +137,29 @@ fn put_child(
     match child {
         ChildRef::None => Ok(()),
         ChildRef::Hashed(hash) => put_stub(path, hash, out),
-        ChildRef::Inline(bytes) => match NodeRef::read(bytes) {
-            Ok(node) => put_items(alloc, levels, path.as_slice(), &node, out),
-            Err(_) => Ok(()),
-        },
+        ChildRef::Inline(bytes) => put_inline(alloc, levels, path.as_slice(), bytes, out),
+    }
+}
+
+// Adds what an inline node has. It isn't inlined, since most children are hashed and need no room for a node on the stack.
+#[cycle(expand)]
+#[inline(never)]
+fn put_inline(
+    alloc: Global,
+    levels: u8,
+    path: &[u8],
+    bytes: &[u8],
+    out: &mut Vec<Piece>,
+) -> Result<(), OutOfMemory>
+    requires { length bytes.now < 32 }
+    ensures known { OnOk result (all_known (all_items out.new.items)
+        ≡ all_known (all_items out.old.items) ++ known_at (known_in levels) path.now (Some bytes.now)) }
+    ensures apart { (settings : List Setting) → AllByRecursion (IsAside settings) out.old.items
+        → OnOk result (AllByRecursion (IsAside settings) out.new.items) }
+{
+    match NodeRef::read(bytes) {
+        Ok(node) => put_items(alloc, levels, path, &node, out),
+        Err(_) => Ok(()),
     }
 }
 

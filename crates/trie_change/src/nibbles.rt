@@ -8,6 +8,9 @@ use sdb_base::OutOfMemory;
 pub(crate) fn push_nibbles(path: &mut Path, bytes: &[u8]) -> Result<(), OutOfMemory>
     ensures { OnOk result (path.new.items ≡ path.old.items ++ nibbles_of bytes.now) }
 {
+    if bytes.is_empty() {
+        return Ok(());
+    }
     path.reserve(2 * bytes.len())?;
     for byte in bytes {
         path.push_reserved(byte / 16);

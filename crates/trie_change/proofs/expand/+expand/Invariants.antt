@@ -9,10 +9,13 @@ use Rattle.trie_change.specs.inner.Pieces.{IsAside, all_items}
 use Rattle.trie_change.proofs.expand.+expand.Given as goal
 
 abbrev pub decreases-put_items : goal.decreases-put_items
-decreases-put_items l = 2 * l.levels
+decreases-put_items l = 3 * l.levels
 
 abbrev pub decreases-put_child : goal.decreases-put_child
-decreases-put_child l = 2 * l.levels + 1
+decreases-put_child l = 3 * l.levels + 2
+
+abbrev pub decreases-put_inline : goal.decreases-put_inline
+decreases-put_inline l = 3 * l.levels + 1
 
 -- what there is so far, and what the children have that are left, are what there is to be
 abbrev pub invariant-put_items-loop-i : goal.invariant-put_items-loop-i
