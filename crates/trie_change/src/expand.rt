@@ -1,4 +1,4 @@
-ghost use Rattle.std.specs.Prelude.{◌≡◌, ◌⊎◌, ◌+◌, ◌≤◌, ◌<◌, ◌++◌, ◌∷◌, List, [], None, Some, false, length, slice_index_or, IfOk, IfSome, OnOk};
+ghost use Rattle.std.specs.Prelude.{◌≡◌, ◌+◌, ◌≤◌, ◌<◌, ◌++◌, ◌∷◌, ℕ, List, [], None, Some, false, length, slice_index_or, IfOk, IfSome, OnOk};
 ghost use Rattle.std.specs.List.{AllByRecursion};
 ghost use Rattle.trie_codec.specs.NodeParts.{child_bytes, node_of_ref};
 ghost use Rattle.trie_codec.specs.Slices.{bytes_in};
@@ -237,18 +237,17 @@ fn put_after_run(
     put_child(alloc, MOST_LEVELS - 1, end, nibble, child, out)
 }
 
-/// What a node has whose path this is, and the inline nodes in it, in the order of keys.
-pub(crate) fn pieces_of(
+// What a node has whose partial key ends here, and the inline nodes in it, in the order of keys.
+fn pieces_at(
     alloc: Global,
     settings: &[Setting],
-    path: &[u8],
+    end: &[u8],
     node: &NodeRef,
 ) -> Result<Vec<Piece>, OutOfMemory>
-    ensures known { IfOk result (λ pieces. all_known (all_items pieces.items) ≡ known_in 33 (node_of_ref node.now) path.now) }
+    ensures known { (path : List ℕ) → end.now ≡ path ++ (node_of_ref node.now).partial
+        → IfOk result (λ pieces. all_known (all_items pieces.items) ≡ known_in 33 (node_of_ref node.now) path) }
     ensures apart { IsRising settings.now → IfOk result (λ pieces. AllByRecursion (IsAside settings.now) pieces.items) }
 {
-    let end = end_of(alloc, path, node)?;
-    let end = end.as_slice();
     let mut pieces = Vec::new(alloc);
     put_own(alloc, end, node.value(), &mut pieces)?;
     let Kind::Branch = node.kind() else {
@@ -274,4 +273,21 @@ pub(crate) fn pieces_of(
     }
     put_run(alloc, end, run, &mut pieces)?;
     Ok(pieces)
+}
+
+/// What a node has whose path this is, and the inline nodes in it, in the order of keys.
+pub(crate) fn pieces_of(
+    alloc: Global,
+    settings: &[Setting],
+    path: &[u8],
+    node: &NodeRef,
+) -> Result<Vec<Piece>, OutOfMemory>
+    ensures known { IfOk result (λ pieces. all_known (all_items pieces.items) ≡ known_in 33 (node_of_ref node.now) path.now) }
+    ensures apart { IsRising settings.now → IfOk result (λ pieces. AllByRecursion (IsAside settings.now) pieces.items) }
+{
+    if node.partial_len() == 0 {
+        return pieces_at(alloc, settings, path, node);
+    }
+    let end = end_of(alloc, path, node)?;
+    pieces_at(alloc, settings, end.as_slice(), node)
 }

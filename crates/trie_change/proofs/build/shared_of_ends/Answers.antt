@@ -1,5 +1,4 @@
 use Rattle.std.proofs.Common.{◌≡◌, ℕ, ◌-◌, List, [], ◌∷◌, length, get_or, drop, refl, ap, sym, ◌∙◌, length-drop, arith}
-use Rattle.std.specs.Prelude.{◌==◌}
 use Rattle.trie_model.specs.Trie.{common}
 use Rattle.trie_change.specs.declared.frontier.Piece.{Piece}
 use Rattle.trie_change.specs.inner.Pieces.{piece_path}
