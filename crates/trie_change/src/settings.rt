@@ -1,7 +1,7 @@
 ghost use Rattle.std.specs.Prelude.{◌≡◌, ◌+◌, ◌<◌, ◌≤◌, ℕ, List, false, slice_index_or, [], ◌∷◌, ◌++◌, length, All, IfOk, IfSome, reverse, vec_len, vec_capacity};
 ghost use Rattle.std.specs.Cmp.Lexicographic.{slice_cmp};
 ghost use Rattle.std.specs.List.{AllByRecursion};
-ghost use Rattle.std.specs.Ordering.{nat_cmp};
+ghost use Rattle.std.specs.Ordering.{is_lt, nat_cmp};
 ghost use Rattle.std.specs.declared.cmp.Ordering.TheVariants.{Less};
 ghost use Rattle.sdb_base.specs.Nibbles.{nibbles_of};
 ghost use Rattle.trie_model.specs.Limits.{ChangesAreWithin, most_in_key, most_in_value};
@@ -92,18 +92,31 @@ pub(crate) fn settings_of(alloc: Global, changes: Changes) -> Result<Vec<Setting
     ensures bytes { IfOk result (λ s. AllByRecursion HasBytes s.items) }
 {
     let last = last_of_each(alloc, changes)?;
-    let mut settings = Vec::new(alloc);
+    let mut settings = Vec::with_capacity(alloc, last.len())?;
     for (key, value) in last {
         settings.push(setting_of(alloc, key.as_slice(), value)?)?;
     }
     Ok(settings)
 }
 
+// Whether a key comes before a path. Of most keys the first few nibbles tell it.
+fn is_below(key: &[u8], path: &[u8]) -> bool
+    ensures { result ≡ is_lt (slice_cmp nat_cmp key.now path.now) }
+{
+    let most = key.len().min(path.len());
+    for i in 0..most {
+        if key[i] != path[i] {
+            return key[i] < path[i];
+        }
+    }
+    key.len() < path.len()
+}
+
 /// Whether a path begins a key that is set. Rising keys that begin with it lie together, after those below it.
 pub(crate) fn begins_a_key(settings: &[Setting], path: &[u8]) -> bool
     ensures { IsRising settings.now → result ≡ begins_one settings.now path.now }
 {
-    let first = settings.partition_point(|setting| setting.path.as_slice().cmp(path).is_lt());
+    let first = settings.partition_point(|setting| is_below(setting.path.as_slice(), path));
     if first == settings.len() {
         return false;
     }
@@ -115,7 +128,7 @@ pub(crate) fn nibbles_set(settings: &[Setting], end: &[u8]) -> [bool; 16]
     ensures { (n : ℕ) → IsRising settings.now → n < 16 → slice_index_or result n false ≡ begins_one settings.now (end.now ++ n ∷ []) }
 {
     let mut set = [false; 16];
-    let first = settings.partition_point(|setting| setting.path.as_slice().cmp(end).is_lt());
+    let first = settings.partition_point(|setting| is_below(setting.path.as_slice(), end));
     for setting in &settings[first..] {
         let path = setting.path.as_slice();
         if !path.starts_with(end) {
