@@ -49,7 +49,10 @@ fn hash_of(bytes: &[u8]) -> [u8; 32]
     ensures { result ≡ bytes.now }
 {
     let mut hash = [0; 32];
-    hash.copy_from_slice(bytes);
+    // Where its length is known it is copied in place, with no call.
+    if bytes.len() == 32 {
+        hash.copy_from_slice(bytes);
+    }
     hash
 }
 
