@@ -27,8 +27,9 @@ pub struct ChangeJob {
     later: Vec<Piece>,
 }
 
-// A change of a few keys fetches and knows of about so many nodes, so that nothing needs to grow.
-const FIRST_ROOM: usize = 48;
+// A change of a few keys fetches about so many nodes, and knows of about so many pieces, so that nothing needs to grow.
+const FIRST_FED: usize = 48;
+const FIRST_PIECES: usize = 96;
 
 impl ChangeJob {
     ghost use Rattle.std.specs.Prelude.{◌≡◌, ◌+◌, ◌≤◌, ◌<◌, ◌^◌, ℕ, true, false, List, ◌∷◌, ◌++◌, [], None, Some, Ok, length, reverse, All, IfOk, OnOk, OnErr, IfErr, IfSome, is_some, vec_len, vec_capacity};
@@ -71,13 +72,13 @@ impl ChangeJob {
         ensures room { IfOk result (HasPlaces 1) }
     {
         let settings = settings_of(alloc, changes)?;
-        let Some(room) = settings.len().checked_add(FIRST_ROOM) else {
+        let Some(room) = settings.len().checked_add(FIRST_PIECES) else {
             return Err(AllocError);
         };
         Ok(ChangeJob {
             alloc,
             settings,
-            fed: Vec::with_capacity(alloc, FIRST_ROOM)?,
+            fed: Vec::with_capacity(alloc, FIRST_FED)?,
             wanted: None,
             found: Vec::with_capacity(alloc, room)?,
             later: Vec::with_capacity(alloc, room)?,

@@ -17,6 +17,9 @@ use trie_codec::{ChildRef, Kind, NodeRef};
 /// A node and the inline ones in it are at most so many, one below the other, since an inline one has fewer than 32 bytes.
 const MOST_LEVELS: u8 = 33;
 
+/// Of most nodes there are at most so many pieces.
+const FIRST_ROOM: usize = 8;
+
 /// A key has at most so many nibbles.
 const MOST_NIBBLES: usize = 2048;
 
@@ -251,7 +254,7 @@ fn pieces_at(
         → IfOk result (λ pieces. all_known (all_items pieces.items) ≡ known_in 33 (node_of_ref node.now) path) }
     ensures apart { IsRising settings.now → IfOk result (λ pieces. AllByRecursion (IsAside settings.now) pieces.items) }
 {
-    let mut pieces = Vec::new(alloc);
+    let mut pieces = Vec::with_capacity(alloc, FIRST_ROOM)?;
     put_own(alloc, end, node.value(), &mut pieces)?;
     let Kind::Branch = node.kind() else {
         return Ok(pieces);

@@ -25,13 +25,13 @@ loop-i-init c =
     let own : List Known = own_known end (bytes_in c.value.result) in
     let none : all_known (sibling_items end c.new-run.result.items) ≡ [] = ap (λ (ss : List Sibling). all_known (sibling_items end ss)) c.new-run.ensures.items in
     let first : all_known (all_items c.put_own.new.out.items) ≡ own =
-    c.in_ok-put_own.ensures.known ∙ ap (λ ps. all_known (all_items ps) ++ own) c.new-pieces.ensures.items in
+    c.in_ok-put_own.ensures.known ∙ ap (λ ps. all_known (all_items ps) ++ own) c.in_ok-pieces.ensures.items in
     record {
       known = λ path at.
           ap (λ (ks : List Known). ks ++ (all_known (sibling_items end c.new-run.result.items) ++ flat_map f (from 0 16))) first
           ∙ ap (λ (ks : List Known). own ++ (ks ++ flat_map f (from 0 16))) none
           ∙ known_begin 33 n path end (bytes_in c.value.result) (omega arith) at c.value.ensures.bytes;
-      apart = λ rising. c.in_ok-put_own.ensures.apart c.args.settings.now (subst (λ ps. AllByRecursion (IsAside c.args.settings.now) ps) (sym c.new-pieces.ensures.items) tt);
+      apart = λ rising. c.in_ok-put_own.ensures.apart c.args.settings.now (subst (λ ps. AllByRecursion (IsAside c.args.settings.now) ps) (sym c.in_ok-pieces.ensures.items) tt);
       run = λ rising. subst (λ (ss : List Sibling). IsRun c.args.settings.now end 0 ss) (sym c.new-run.ensures.items) (run_none c.args.settings.now end 0);
     }
 
@@ -130,13 +130,13 @@ returns-in_default-clause-known c = λ path at.
     let f : ℕ → List Known = λ i. known_at (known_in 32) (end ++ i ∷ []) (get_or n.children i None) in
     let nothing : flat_map f (from 0 16) ≡ [] =
     childless (λ i. get_or n.children i None) (λ i. none_there n.children i (no_branch (has_child n.children) n.value (λ e. c.in_default.not-Branch (c.kind.ensures ∙ e)))) end (from 0 16) in
-    c.in_ok-put_own.ensures.known ∙ ap (λ ps. all_known (all_items ps) ++ own) c.new-pieces.ensures.items
+    c.in_ok-put_own.ensures.known ∙ ap (λ ps. all_known (all_items ps) ++ own) c.in_ok-pieces.ensures.items
     ∙ sym (append-nil own) ∙ ap (λ (ks : List Known). own ++ ks) (sym nothing)
     ∙ known_begin 33 n path end (bytes_in c.value.result) (omega arith) at c.value.ensures.bytes
 
 pub returns-in_default-clause-apart : goal.returns-in_default-clause-apart
 returns-in_default-clause-apart c = λ rising.
-    c.in_ok-put_own.ensures.apart c.args.settings.now (subst (λ ps. AllByRecursion (IsAside c.args.settings.now) ps) (sym c.new-pieces.ensures.items) tt)
+    c.in_ok-put_own.ensures.apart c.args.settings.now (subst (λ ps. AllByRecursion (IsAside c.args.settings.now) ps) (sym c.in_ok-pieces.ensures.items) tt)
 
 pub returns-clause-apart : goal.returns-clause-apart
 returns-clause-apart c = λ rising.
