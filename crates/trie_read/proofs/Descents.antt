@@ -1,6 +1,6 @@
 -- Steps of a key's way down a node.
 use Rattle.std.proofs.Common.{◌≡◌, ℕ, zero, suc, ◌+◌, ◌-◌, ◌<◌, ◌≤◌, Bool, true, false, eqb, List, [], ◌∷◌, length, get_or, drop, Option, Some, None, refl, ap, sym, ◌∙◌, inl, inr, arith, eq-eqb, length-drop}
-use Rattle.std.specs.Prelude.{◌&&◌, ◌||◌, is_some, nat_lt, not, Ok, Err}
+use Rattle.std.specs.Prelude.{◌&&◌, ◌||◌, is_some, nat_lt, Ok, Err}
 use Rattle.std.specs.Borrow.{Bor}
 use Rattle.std.specs.List.{list_any}
 use Rattle.std.proofs.lemmas.List.{drop_all, drop_more}
