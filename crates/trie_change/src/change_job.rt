@@ -29,6 +29,7 @@ pub struct ChangeJob {
 
 // A change of a few keys fetches about so many nodes, and knows of about so many pieces, so that nothing needs to grow.
 const FIRST_FED: usize = 48;
+
 const FIRST_PIECES: usize = 96;
 
 impl ChangeJob {

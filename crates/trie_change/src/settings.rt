@@ -1,6 +1,6 @@
-ghost use Rattle.std.specs.Prelude.{◌≡◌, ◌+◌, ◌<◌, ◌≤◌, ℕ, List, false, slice_index_or, [], ◌∷◌, ◌++◌, length, All, IfOk, IfSome, reverse, vec_len, vec_capacity};
+ghost use Rattle.std.specs.Prelude.{nat_eq, ◌≡◌, ◌+◌, ◌<◌, ◌≤◌, ℕ, List, false, slice_index_or, [], ◌∷◌, ◌++◌, length, All, IfOk, IfSome, reverse, vec_len, vec_capacity};
 ghost use Rattle.std.specs.Cmp.Lexicographic.{slice_cmp};
-ghost use Rattle.std.specs.List.{AllByRecursion};
+ghost use Rattle.std.specs.List.{AllByRecursion, starts_with};
 ghost use Rattle.std.specs.Ordering.{is_lt, nat_cmp};
 ghost use Rattle.std.specs.declared.cmp.Ordering.TheVariants.{Less};
 ghost use Rattle.sdb_base.specs.Nibbles.{nibbles_of};
@@ -112,6 +112,21 @@ fn is_below(key: &[u8], path: &[u8]) -> bool
     key.len() < path.len()
 }
 
+// Whether a key begins with a path.
+fn begins_with(key: &[u8], path: &[u8]) -> bool
+    ensures { result ≡ starts_with nat_eq key.now path.now }
+{
+    if key.len() < path.len() {
+        return false;
+    }
+    for i in 0..path.len() {
+        if key[i] != path[i] {
+            return false;
+        }
+    }
+    true
+}
+
 /// Whether a path begins a key that is set. Rising keys that begin with it lie together, after those below it.
 pub(crate) fn begins_a_key(settings: &[Setting], path: &[u8]) -> bool
     ensures { IsRising settings.now → result ≡ begins_one settings.now path.now }
@@ -120,7 +135,7 @@ pub(crate) fn begins_a_key(settings: &[Setting], path: &[u8]) -> bool
     if first == settings.len() {
         return false;
     }
-    settings[first].path.as_slice().starts_with(path)
+    begins_with(settings[first].path.as_slice(), path)
 }
 
 /// The nibbles with which keys that are set go on after a path.
@@ -131,7 +146,7 @@ pub(crate) fn nibbles_set(settings: &[Setting], end: &[u8]) -> [bool; 16]
     let first = settings.partition_point(|setting| is_below(setting.path.as_slice(), end));
     for setting in &settings[first..] {
         let path = setting.path.as_slice();
-        if !path.starts_with(end) {
+        if !begins_with(path, end) {
             return set;
         }
         if let Some(nibble) = path.get(end.len()) {

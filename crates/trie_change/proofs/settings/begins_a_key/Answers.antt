@@ -19,6 +19,6 @@ returns c = λ rising.
     let path = c.args.path.now in
     let point = IsPartitionPoint-from_clause (is_before path) xs c.partition_point-first.result c.partition_point-first.ensures.partitioned (parted xs path rising) (λ a r q k. search rules) in
     let few : c.partition_point-first.result < length xs = omega (arith, c.partition_point-first.ensures.bound) in
-    c.starts_with.ensures.value
+    c.begins_with.ensures
     ∙ ap (λ (p : List ℕ). starts_with nat_eq p path) c.as_slice.ensures
     ∙ sym (first_begins xs path c.partition_point-first.result c.index-settings-first.result rising few point.0 point.1)

@@ -8,14 +8,14 @@ use Rattle.trie_change.proofs.NibblesSet.{all_passed, one_passed, stopped}
 use Rattle.trie_change.proofs.settings.nibbles_set.Goals as goal
 use Rattle.trie_change.proofs.settings.nibbles_set.Goals.{in-Some+then-nibble-lt16, in-Some+else-nibble-lt16, in_default}
 
-pub returns-then-not-starts_with : goal.returns-then-not-starts_with
-returns-then-not-starts_with c = λ n rising few.
+pub returns-then-not-begins_with : goal.returns-then-not-begins_with
+returns-then-not-begins_with c = λ n rising few.
     let xs = c.args.settings.now in
     let end = c.args.end.now in
     let point = IsPartitionPoint-from_clause (is_before end) xs c.partition_point-first.result c.partition_point-first.ensures.partitioned (parted xs end rising) (λ a r q k. search rules) in
     c.loop-setting.invariant.noted n few
     ∙ stopped xs c.partition_point-first.result c.loop-setting.setting-index n c.setting-item.result end c.as_slice-path.result.now rising c.partition_point-first.ensures.bound point.0 point.1
-    c.loop-setting-test.true c.setting-item.is c.as_slice-path.ensures (sym c.starts_with.ensures.value ∙ c.if-not-starts_with.true)
+    c.loop-setting-test.true c.setting-item.is c.as_slice-path.ensures (sym c.begins_with.ensures ∙ c.if-not-begins_with.true)
 
 pub loop-setting-preserved : goal.loop-setting-preserved
 loop-setting-preserved c = record {
@@ -33,11 +33,11 @@ loop-setting-preserved c = record {
       (elim c.match-get.branch [
         | in-Some+then-nibble-lt16 w ↦
             ap (λ set. slice_index_or set n false) w.set-is ∙ noted c.loop-setting.set w.in-Some.nibble.now n c.loop-setting.invariant.len w.if-nibble-lt16.true
-            ∙ ap (λ b. old || b) (sym (goes_on_by path end n w.in-Some.nibble.now w.in-Some.ensures.lookup.3.0 (sym c.starts_with.ensures.value ∙ c.if-not-starts_with.false) (w.in-Some.ensures.lookup.3.1 0)))
+            ∙ ap (λ b. old || b) (sym (goes_on_by path end n w.in-Some.nibble.now w.in-Some.ensures.lookup.3.0 (sym c.begins_with.ensures ∙ c.if-not-begins_with.false) (w.in-Some.ensures.lookup.3.1 0)))
         | in-Some+else-nibble-lt16 w ↦
             ap (λ set. slice_index_or set n false) w.set-is ∙ sym (or_false old)
             ∙ ap (λ b. old || b)
-            (sym (goes_on_by path end n w.in-Some.nibble.now w.in-Some.ensures.lookup.3.0 (sym c.starts_with.ensures.value ∙ c.if-not-starts_with.false) (w.in-Some.ensures.lookup.3.1 0)
+            (sym (goes_on_by path end n w.in-Some.nibble.now w.in-Some.ensures.lookup.3.0 (sym c.begins_with.ensures ∙ c.if-not-begins_with.false) (w.in-Some.ensures.lookup.3.1 0)
             ∙ is_no_nibble n w.in-Some.nibble.now few w.if-nibble-lt16.false))
         | in_default w ↦
             ap (λ set. slice_index_or set n false) w.set-is ∙ sym (or_false old) ∙ ap (λ b. old || b) (sym (ends_before path end n w.in_default.ensures.lookup.3))
