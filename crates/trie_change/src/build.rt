@@ -7,7 +7,7 @@ ghost use Rattle.trie_model.specs.Trie.{below, child_value, common, node_of_all}
 ghost use Rattle.trie_codec.specs.Parts.{node_with};
 ghost use Rattle.trie_codec.specs.Slices.{bytes_in};
 ghost use Rattle.trie_change.specs.Frontier.{IsLimited};
-ghost use Rattle.trie_change.specs.inner.Built.{FitsNode, IsMade, IsNew, IsShortValue, ItemBranch, ItemGroup, is_made, made_of_group, node_of_group, nodes_at, nodes_below, values_below};
+ghost use Rattle.trie_change.specs.inner.Built.{FitsNode, IsMade, IsSpelled, IsShortValue, ItemBranch, ItemGroup, is_made, made_of_group, node_of_group, nodes_at, nodes_below, values_below};
 ghost use Rattle.trie_change.specs.inner.Pieces.{IsCutAt, IsKeyAlone, IsUncut, all_items, piece_hash, piece_path, piece_rank, piece_value, sibling_items};
 ghost use Rattle.trie_change.specs.inner.Diffs.{AreShort, Comparison, IsComparison, after_nodes, most_in_node};
 
@@ -352,7 +352,7 @@ fn made_leaf(alloc: Global, first: &Piece, at: usize, end: usize) -> Result<Made
     requires rises { at ≤ end }
     requires end { end ≤ length (piece_path first.now) }
     ensures fits { IfOk result FitsNode }
-    ensures spelled { IfOk result (IsNew
+    ensures spelled { IfOk result (IsSpelled
         (spelling (node_with (take (end - at) (drop at (piece_path first.now))) (piece_value end first.now) (replicate 16 None)))) }
 {
     let none = SpelledChildren::none(alloc);
@@ -375,7 +375,7 @@ fn made_node(
     requires sixteen { length children.now ≡ 16 }
     requires short { All (λ child. IfSome child IsShortValue) children.now }
     ensures fits { IfOk result FitsNode }
-    ensures spelled { IfOk result (IsNew
+    ensures spelled { IfOk result (IsSpelled
         (spelling (node_with (take (end - at) (drop at (piece_path first.now))) (piece_value end first.now) children.now))) }
 {
     let partial = &path_of(first)[at..end];

@@ -127,9 +127,9 @@ FitsNode (made.Kept hash) = Unit {0}
 FitsNode (made.New bytes) = length bytes ≤ most_in_node
 
 -- a new node of these bytes
-abbrev pub IsNew : List ℕ → Made → Type 0
-IsNew bytes (made.Kept hash) = ⊥
-IsNew bytes (made.New other) = other ≡ bytes
+abbrev pub IsSpelled : List ℕ → Made → Type 0
+IsSpelled bytes (made.Kept hash) = ⊥
+IsSpelled bytes (made.New other) = other ≡ bytes
 
 -- a Merkle value
 abbrev pub IsShortValue : List ℕ → Type 0

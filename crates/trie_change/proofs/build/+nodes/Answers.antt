@@ -12,7 +12,7 @@ use Rattle.trie_change.specs.declared.frontier.Piece.{Piece}
 use Rattle.trie_change.specs.declared.frontier.Sibling.{Sibling}
 use Rattle.trie_change.specs.declared.build.Made.{Made}
 use Rattle.trie_change.specs.declared.build.Made.TheVariants as made
-use Rattle.trie_change.specs.inner.Built.{IsMade, IsNew, ItemBranch, ItemGroup, is_made, made_of_group, node_of_group, nodes_below, nodes_from, values_below}
+use Rattle.trie_change.specs.inner.Built.{IsMade, IsSpelled, ItemBranch, ItemGroup, is_made, made_of_group, node_of_group, nodes_below, nodes_from, values_below}
 use Rattle.trie_change.specs.declared.diff.Diff.{Diff}
 use Rattle.trie_change.specs.inner.Diffs.{Comparison, IsComparison, after_nodes}
 use Rattle.trie_change.specs.inner.Pieces.{all_items, piece_hash, piece_path, piece_value}
@@ -182,7 +182,7 @@ spelled_here : (at n : ℕ) (pieces : List Piece) (g : ItemGroup at (all_items p
     → n ≡ length (common (drop at (piece_path (get_or pieces 0 first))) (drop at (piece_path (get_or pieces (length pieces - 1) first))))
     → ((b : ItemBranch (at + n) (all_items pieces)) → (children ≡ values_below b.group.suffixes b.group.path)
     × IsComparison d (after_nodes k (filter (is_made b.group.under) (nodes_below b.group.suffixes b.group.path))))
-    → (m : Made) → IsNew (spelling (node_with (take (at + n - at) (drop at (piece_path first))) (piece_value (at + n) first) children)) m
+    → (m : Made) → IsSpelled (spelling (node_with (take (at + n - at) (drop at (piece_path first))) (piece_value (at + n) first) children)) m
     → IsMade k (node_of_group g) (made_of_group g) d m
 spelled_here at n pieces g first other children k d some is_other is long no_hash shares below_it (made.Kept h) spelled = absurd spelled
 spelled_here at n pieces g first other children k d some is_other is long no_hash shares below_it (made.New b) spelled =
