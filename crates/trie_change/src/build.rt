@@ -1,4 +1,5 @@
 ghost use Rattle.std.specs.Prelude.{◌≡◌, ◌≢◌, ℕ, suc, ◌+◌, ◌-◌, ◌<◌, ◌≤◌, List, [], ◌++◌, ◌∷◌, All, IfOk, IfSome, OnOk, Some, None, drop, filter, length, replicate, slice_index_or, take, true, false};
+ghost use Rattle.std.specs.Option.{option_copied};
 ghost use Rattle.sdb_blake2.specs.Blake2b.{H};
 ghost use Rattle.trie_model.specs.Limits.{most_in_value};
 ghost use Rattle.trie_model.specs.Node.{IsPartial, merkle_value, spelling};
@@ -90,7 +91,7 @@ fn made_of(alloc: Global, diff: &mut Diff, items: &[Piece], at: usize) -> Result
         → IfOk result (IsMade c (node_of_group g) (made_of_group g) diff.new) }
 {
     if let Some(hash) = hash_here(&items[0], at) {
-        return Ok(Made::Kept(hash));
+        return Ok(Made::Kept(*hash));
     }
     let end = at + shared_of_ends(items, at);
     if is_key_alone(items, end) {
@@ -178,6 +179,10 @@ fn put_child(
         children.put_none();
         return Ok(());
     }
+    if let Some(hash) = hash_here(&items[0], at) {
+        put_hash(children, hash);
+        return Ok(());
+    }
     let made = made_of(alloc, diff, items, at)?;
     put_value(diff, path_before(&items[0], at), made, children)
 }
@@ -254,14 +259,14 @@ fn siblings_here(items: &[Piece], at: usize) -> (&[Piece], &[Sibling])
 }
 
 // The hash of a stub whose path has `at` nibbles.
-fn hash_here(item: &Piece, at: usize) -> Option<NodeHash>
-    ensures { result ≡ piece_hash at item.now }
+fn hash_here(item: &Piece, at: usize) -> Option<&NodeHash>
+    ensures { option_copied result ≡ piece_hash at item.now }
 {
     match item {
         Piece::Entry(_) | Piece::Siblings(_) => None,
         Piece::Stub(stub) => {
             if stub.path.as_slice().len() == at {
-                Some(stub.hash)
+                Some(&stub.hash)
             } else {
                 None
             }

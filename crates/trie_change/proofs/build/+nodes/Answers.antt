@@ -19,6 +19,7 @@ use Rattle.trie_change.specs.inner.Pieces.{all_items, piece_hash, piece_path, pi
 use Rattle.trie_change.proofs.ChildValues.{any_there, group_some, longer_path, value_there}
 use Rattle.trie_change.proofs.KeysAlone.{none_of_key}
 use Rattle.trie_change.proofs.MadeGroups.{end_within}
+use Rattle.trie_change.proofs.MadeValues.{stored_long, value_hashed}
 use Rattle.trie_change.proofs.PieceGroups.{piece_kept, piece_path_taken, pieces_made}
 use Rattle.trie_change.proofs.PieceItems.{some_items}
 use Rattle.trie_change.proofs.PieceLimits.{limited_head, limited_parts, limited_path, limited_value}
@@ -37,13 +38,13 @@ pub put_child-returns-clause-child : goal.put_child-returns-clause-child
 put_child-returns-clause-child t c = λ g k is.
     let at = c.args.at in
     let pieces = c.args.items.now in
-    let first = c.index-items-0.result in
+    let first = c.index-items-0-2.result in
     let some : 1 ≤ length pieces = some_pieces pieces c.if-is_empty.ensures in
     let some_there : 1 ≤ length (all_items pieces) = some_items pieces some in
-    let long : at ≤ length (piece_path first) = subst (λ (p : Piece). at ≤ length (piece_path p)) (sym c.index-items-0.is) (c.requires.long 0 first (omega arith)) in
+    let long : at ≤ length (piece_path first) = subst (λ (p : Piece). at ≤ length (piece_path p)) (sym c.index-items-0-2.is) (c.requires.long 0 first (omega arith)) in
     let n = node_of_group g in
     let there : below g.path g.suffixes ≡ [] → ⊥ = group_some at (all_items pieces) g c.requires.at some_there in
-    let path : n.path ≡ c.path_before.result.now = piece_path_taken at pieces g first some c.index-items-0.is long ∙ sym c.path_before.ensures in
+    let path : n.path ≡ c.path_before.result.now = piece_path_taken at pieces g first some c.index-items-0-2.is long ∙ sym c.path_before.ensures in
     on_ok_weaker c.put_value.result
     (λ out. (
       out.0 ∙ ap (λ (o : Option (List ℕ)). o ∷ c.args.children.now) (sym (value_there (below g.path g.suffixes) there)),
@@ -51,6 +52,24 @@ put_child-returns-clause-child t c = λ g k is.
           (sym (any_there (nodes_from g.path) (below g.path g.suffixes) there)) out.1,
     ))
     (c.put_value.ensures.value n (made_of_group g) k path (longer_path at (all_items pieces) g c.requires.at) (c.in_ok-made.ensures.made g k is))
+
+pub put_child-returns-in-Some-clause-child : goal.put_child-returns-in-Some-clause-child
+put_child-returns-in-Some-clause-child t c = λ g k is.
+    let at = c.args.at in
+    let pieces = c.args.items.now in
+    let first = c.index-items-0.result in
+    let some : 1 ≤ length pieces = some_pieces pieces c.if-is_empty.ensures in
+    let some_there : 1 ≤ length (all_items pieces) = some_items pieces some in
+    let long : at ≤ length (piece_path first) = subst (λ (p : Piece). at ≤ length (piece_path p)) (sym c.index-items-0.is) (c.requires.long 0 first (omega arith)) in
+    let n = node_of_group g in
+    let there : below g.path g.suffixes ≡ [] → ⊥ = group_some at (all_items pieces) g c.requires.at some_there in
+    let made = piece_kept at pieces g first c.in-Some.hash.now k c.args.diff.now some c.index-items-0.is long c.in-Some.ensures is in (
+      c.put_hash.ensures.put
+          ∙ ap (λ (v : List ℕ). Some v ∷ c.args.children.now) (made.0 ∙ sym (value_hashed n.bytes (stored_long n (longer_path at (all_items pieces) g c.requires.at) made.1)))
+          ∙ ap (λ (o : Option (List ℕ)). o ∷ c.args.children.now) (sym (value_there (below g.path g.suffixes) there)),
+      subst (λ (ns : List PathNode). IsComparison c.args.diff.now (after_nodes k (filter (is_made g.under) ns)))
+          (sym (any_there (nodes_from g.path) (below g.path g.suffixes) there)) made.2,
+    )
 
 pub put_children-loop-count-init : goal.put_children-loop-count-init
 put_children-loop-count-init t c =
@@ -127,7 +146,7 @@ made_of-returns-in-Some-clause-made t c = λ g k is.
     let first = c.index-items-0.result in
     let long : c.args.at ≤ length (piece_path first) =
     subst (λ (p : Piece). c.args.at ≤ length (piece_path p)) (sym c.index-items-0.is) (c.requires.long 0 first (omega (arith, c.requires.some))) in
-    piece_kept c.args.at c.args.items.now g first c.in-Some.hash k c.args.diff.now c.requires.some c.index-items-0.is long c.in-Some.ensures is
+    piece_kept c.args.at c.args.items.now g first c.in-Some.hash.now k c.args.diff.now c.requires.some c.index-items-0.is long c.in-Some.ensures is
 
 -- what the first and the last share ends within the first
 ends_within : (at n : ℕ) (pieces : List Piece) (d : Piece) → 1 ≤ length pieces → All (λ (p : Piece). at ≤ length (piece_path p)) pieces
