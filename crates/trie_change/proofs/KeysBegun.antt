@@ -1,11 +1,12 @@
 -- Keys in order that begin with a path lie together, after those below it.
-use Rattle.std.proofs.Common.{◌≡◌, ℕ, zero, suc, ◌<◌, Bool, true, false, List, [], ◌∷◌, ◌++◌, length, get_or, T, refl, ap, ap₂, subst, sym, ◌∙◌, inl, inr, arith}
+use Rattle.std.proofs.Common.{◌≡◌, ℕ, zero, suc, ◌+◌, ◌<◌, Bool, true, false, List, [], ◌∷◌, ◌++◌, length, get_or, T, refl, ap, ap₂, subst, sym, ◌∙◌, inl, inr, arith}
 use Rattle.std.specs.Prelude.{◌||◌, nat_eq}
 use Rattle.std.specs.List.{AllWithin, starts_with}
 use Rattle.std.specs.List.Sorted.{IsPartitionedBy}
 use Rattle.std.specs.Ordering.{is_lt, ordering_then}
+use Rattle.std.proofs.lemmas.Bool.{cases_lt}
 use Rattle.std.proofs.lemmas.Cmp.{nat_cmp_total, tied_itself}
-use Rattle.std.proofs.lemmas.List.{append-nil}
+use Rattle.std.proofs.lemmas.List.{append-nil, get_or_default}
 use Rattle.std.specs.declared.cmp.Ordering.{Ordering}
 use Rattle.std.specs.declared.cmp.Ordering.TheVariants.{Less, Equal, Greater}
 use Rattle.std.specs.FinMap.{is_sorted}
@@ -116,3 +117,22 @@ first_begins (s ∷ settings) path (suc r) d h few a b =
     ap (λ t. t || begins_one settings path) (off_below s path (a 0 s (omega arith) (omega arith)))
     ∙ first_begins settings path r d (rest_rises s settings h) (omega arith) (λ k e low high. a (suc k) e (omega arith) (omega arith))
     (λ k e low high. b (suc k) e (omega arith) (omega arith))
+
+-- ---- from where on no key is below a path
+
+-- those before one that is below the path are below it
+pub below_before : (settings : List Setting) (path : List ℕ) (at r : ℕ) (d : Setting) → IsRising settings → at < length settings → is_before path (get_or settings at d) ≡ true
+    → AllWithin (λ (s : Setting). is_before path s ≡ true) settings (at + 1) r → AllWithin (λ (s : Setting). is_before path s ≡ true) settings 0 r
+below_before settings path at r d h few is after k e low high = elim (cases_lt at k) [
+  | inl later ↦ after k e (omega (arith, later)) high
+  | inr first ↦ parted settings path h k at e (omega (arith, first)) few (ap (is_before path) (get_or_default settings at e d few) ∙ is)
+]
+
+-- none after one that isn't below it is below it
+pub others_after : (settings : List Setting) (path : List ℕ) (r : ℕ) → IsRising settings → ((s : Setting) → r < length settings → is_before path (get_or settings r s) ≡ false)
+    → AllWithin (λ (s : Setting). is_before path s ≡ false) settings r (length settings)
+others_after settings path r h stops k e low high = by_test (is_before path (get_or settings k e)) refl
+  where
+    by_test : (b : Bool) → is_before path (get_or settings k e) ≡ b → b ≡ false
+    by_test false is = refl
+    by_test true is = let no_ : true ≡ false = sym (parted settings path h r k e low high is) ∙ stops e (omega arith) in absurd cc

@@ -18,6 +18,8 @@ pub struct ChangeJob {
     alloc: Global,
     // What keys are set to, by rising key; none is left once the pieces have it.
     settings: Vec<Setting>,
+    // Where among them the keys are that go on with the wanted node's path.
+    at: usize,
     // The nodes that were fed.
     fed: Vec<Fed>,
     wanted: Option<Stub>,
@@ -79,6 +81,7 @@ impl ChangeJob {
         Ok(ChangeJob {
             alloc,
             settings,
+            at: 0,
             fed: Vec::with_capacity(alloc, FIRST_FED)?,
             wanted: None,
             found: Vec::with_capacity(alloc, room)?,
@@ -153,6 +156,7 @@ impl ChangeJob {
         let Ok(pieces) = pieces_of(
             self.alloc,
             self.settings.as_slice(),
+            self.at,
             wanted.path.as_slice(),
             node,
         ) else {
@@ -245,7 +249,12 @@ impl ChangeJob {
             self.go_to_unhung();
             return;
         }
-        self.wanted = move_to_set(self.settings.as_slice(), &mut self.found, &mut self.later);
+        self.wanted = move_to_set(
+            self.settings.as_slice(),
+            &mut self.at,
+            &mut self.found,
+            &mut self.later,
+        );
         if self.wanted.is_some() {
             return;
         }

@@ -247,6 +247,7 @@ fn put_after_run(
 fn pieces_at(
     alloc: Global,
     settings: &[Setting],
+    at: usize,
     end: &[u8],
     node: &NodeRef,
 ) -> Result<Vec<Piece>, OutOfMemory>
@@ -259,7 +260,7 @@ fn pieces_at(
     let Kind::Branch = node.kind() else {
         return Ok(pieces);
     };
-    let set = nibbles_set(settings, end);
+    let set = nibbles_set(settings, at, end);
     let mut run = Vec::new(alloc);
     for i in 0..16u8 {
         let child = node.child(i);
@@ -285,6 +286,7 @@ fn pieces_at(
 pub(crate) fn pieces_of(
     alloc: Global,
     settings: &[Setting],
+    at: usize,
     path: &[u8],
     node: &NodeRef,
 ) -> Result<Vec<Piece>, OutOfMemory>
@@ -292,8 +294,8 @@ pub(crate) fn pieces_of(
     ensures apart { IsRising settings.now → IfOk result (λ pieces. AllByRecursion (IsAside settings.now) pieces.items) }
 {
     if node.partial_len() == 0 {
-        return pieces_at(alloc, settings, path, node);
+        return pieces_at(alloc, settings, at, path, node);
     }
     let end = end_of(alloc, path, node)?;
-    pieces_at(alloc, settings, end.as_slice(), node)
+    pieces_at(alloc, settings, at, end.as_slice(), node)
 }

@@ -81,9 +81,10 @@ fn hangs(before: Option<&Piece>, path: &[u8], after: Option<&Piece>) -> bool
     last_goes_on_with(before, above) || first_goes_on_with(after, above)
 }
 
-/// Moves pieces up to the next stub whose path begins a key that is set.
+/// Moves pieces up to the next stub whose path begins a key that is set, which is looked for from `at` on.
 pub(crate) fn move_to_set(
     settings: &[Setting],
+    at: &mut usize,
     found: &mut Vec<Piece>,
     later: &mut Vec<Piece>,
 ) -> Option<Stub>
@@ -104,7 +105,7 @@ pub(crate) fn move_to_set(
     while let Some(piece) = later.pop() {
         match piece {
             Piece::Stub(stub) => {
-                if begins_a_key(settings, stub.path.as_slice()) {
+                if begins_a_key(settings, at, stub.path.as_slice()) {
                     return Some(stub);
                 }
                 found.push_reserved(Piece::Stub(stub));

@@ -1,6 +1,6 @@
-ghost use Rattle.std.specs.Prelude.{nat_eq, ◌≡◌, ◌+◌, ◌<◌, ◌≤◌, ℕ, List, false, slice_index_or, [], ◌∷◌, ◌++◌, length, All, IfOk, IfSome, reverse, vec_len, vec_capacity};
+ghost use Rattle.std.specs.Prelude.{nat_eq, ◌≡◌, ◌+◌, ◌<◌, ◌≤◌, ℕ, List, true, false, slice_index_or, [], ◌∷◌, ◌++◌, length, All, IfOk, IfSome, reverse, vec_len, vec_capacity};
 ghost use Rattle.std.specs.Cmp.Lexicographic.{slice_cmp};
-ghost use Rattle.std.specs.List.{AllByRecursion, starts_with};
+ghost use Rattle.std.specs.List.{AllByRecursion, AllWithin, starts_with};
 ghost use Rattle.std.specs.Ordering.{is_lt, nat_cmp};
 ghost use Rattle.std.specs.declared.cmp.Ordering.TheVariants.{Less};
 ghost use Rattle.sdb_base.specs.Nibbles.{nibbles_of};
@@ -127,23 +127,61 @@ fn begins_with(key: &[u8], path: &[u8]) -> bool
     true
 }
 
-/// Whether a path begins a key that is set. Rising keys that begin with it lie together, after those below it.
-pub(crate) fn begins_a_key(settings: &[Setting], path: &[u8]) -> bool
+// From which setting on none of these is below a path, at `at` or after it.
+fn next_from(settings: &[Setting], at: usize, path: &[u8]) -> usize
+    requires { at ≤ length settings.now }
+    ensures from { at ≤ result }
+    ensures bound { result ≤ length settings.now }
+    ensures below { AllWithin (λ (s : Setting). is_lt (slice_cmp nat_cmp s.path.items path.now) ≡ true) settings.now at result }
+    ensures stops { (s : Setting) → result < length settings.now
+        → is_lt (slice_cmp nat_cmp (slice_index_or settings.now result s).path.items path.now) ≡ false }
+{
+    for i in at..settings.len() {
+        if !is_below(settings[i].path.as_slice(), path) {
+            return i;
+        }
+    }
+    settings.len()
+}
+
+// From which setting on none is below a path. Where all before `at` are below it, few are looked at.
+fn first_from(settings: &[Setting], at: usize, path: &[u8]) -> usize
+    ensures bound { result ≤ length settings.now }
+    ensures below { IsRising settings.now
+        → AllWithin (λ (s : Setting). is_lt (slice_cmp nat_cmp s.path.items path.now) ≡ true) settings.now 0 result }
+    ensures others { IsRising settings.now
+        → AllWithin (λ (s : Setting). is_lt (slice_cmp nat_cmp s.path.items path.now) ≡ false) settings.now result (length settings.now) }
+{
+    if at == 0 {
+        return next_from(settings, 0, path);
+    }
+    if at <= settings.len() {
+        if is_below(settings[at - 1].path.as_slice(), path) {
+            return next_from(settings, at, path);
+        }
+    }
+    settings.partition_point(|setting| is_below(setting.path.as_slice(), path))
+}
+
+/// Whether a path begins a key that is set. Rising keys that begin with it lie together, after those below it; `at` is where
+/// they were looked for last.
+pub(crate) fn begins_a_key(settings: &[Setting], at: &mut usize, path: &[u8]) -> bool
     ensures { IsRising settings.now → result ≡ begins_one settings.now path.now }
 {
-    let first = settings.partition_point(|setting| is_below(setting.path.as_slice(), path));
+    let first = first_from(settings, *at, path);
+    *at = first;
     if first == settings.len() {
         return false;
     }
     begins_with(settings[first].path.as_slice(), path)
 }
 
-/// The nibbles with which keys that are set go on after a path.
-pub(crate) fn nibbles_set(settings: &[Setting], end: &[u8]) -> [bool; 16]
+/// The nibbles with which keys that are set go on after a path; `at` is about where these keys are.
+pub(crate) fn nibbles_set(settings: &[Setting], at: usize, end: &[u8]) -> [bool; 16]
     ensures { (n : ℕ) → IsRising settings.now → n < 16 → slice_index_or result n false ≡ begins_one settings.now (end.now ++ n ∷ []) }
 {
     let mut set = [false; 16];
-    let first = settings.partition_point(|setting| is_below(setting.path.as_slice(), end));
+    let first = first_from(settings, at, end);
     for setting in &settings[first..] {
         let path = setting.path.as_slice();
         if !begins_with(path, end) {

@@ -1,7 +1,6 @@
 use Rattle.std.proofs.Common.{◌≡◌, ◌<◌, true, length, List, ℕ, ap, subst, sym, ◌∙◌, arith, rules}
 use Rattle.std.specs.Prelude.{nat_eq}
 use Rattle.std.specs.List.{AllWithin, starts_with}
-use Rattle.std.proofs.lemmas.List.Sorted.{IsPartitionPoint-from_clause}
 use Rattle.trie_change.specs.declared.settings.Setting.{Setting}
 use Rattle.trie_change.proofs.KeysBegun.{first_begins, is_before, none_begins, parted}
 use Rattle.trie_change.proofs.settings.begins_a_key.Goals as goal
@@ -10,15 +9,13 @@ pub returns-then-first-settings : goal.returns-then-first-settings
 returns-then-first-settings c = λ rising.
     let xs = c.args.settings.now in
     let path = c.args.path.now in
-    let point = IsPartitionPoint-from_clause (is_before path) xs c.partition_point-first.result c.partition_point-first.ensures.partitioned (parted xs path rising) (λ a r q k. search rules) in
-    sym (none_begins xs path (subst (AllWithin (λ (s : Setting). is_before path s ≡ true) xs 0) c.if-first-settings.true point.0))
+    sym (none_begins xs path (subst (AllWithin (λ (s : Setting). is_before path s ≡ true) xs 0) c.if-first-settings.true (c.first_from-first.ensures.below rising)))
 
 pub returns : goal.returns
 returns c = λ rising.
     let xs = c.args.settings.now in
     let path = c.args.path.now in
-    let point = IsPartitionPoint-from_clause (is_before path) xs c.partition_point-first.result c.partition_point-first.ensures.partitioned (parted xs path rising) (λ a r q k. search rules) in
-    let few : c.partition_point-first.result < length xs = omega (arith, c.partition_point-first.ensures.bound) in
+    let few : c.first_from-first.result < length xs = omega (arith, c.first_from-first.ensures.bound) in
     c.begins_with.ensures
     ∙ ap (λ (p : List ℕ). starts_with nat_eq p path) c.as_slice.ensures
-    ∙ sym (first_begins xs path c.partition_point-first.result c.index-settings-first.result rising few point.0 point.1)
+    ∙ sym (first_begins xs path c.first_from-first.result c.index-settings-first.result rising few (c.first_from-first.ensures.below rising) (c.first_from-first.ensures.others rising))

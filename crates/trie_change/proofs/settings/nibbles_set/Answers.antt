@@ -1,7 +1,6 @@
 use Rattle.std.proofs.Common.{length, slice_index_or, false, ap, sym, ◌∙◌, rules}
 use Rattle.std.specs.Prelude.{◌||◌}
 use Rattle.std.proofs.lemmas.List.{length-set}
-use Rattle.std.proofs.lemmas.List.Sorted.{IsPartitionPoint-from_clause}
 use Rattle.trie_change.proofs.KeysBegun.{is_before, parted}
 use Rattle.trie_change.proofs.NextNibbles.{ends_before, goes_on_by, is_no_nibble, noted, or_false}
 use Rattle.trie_change.proofs.NibblesSet.{all_passed, one_passed, stopped}
@@ -12,9 +11,8 @@ pub returns-then-not-begins_with : goal.returns-then-not-begins_with
 returns-then-not-begins_with c = λ n rising few.
     let xs = c.args.settings.now in
     let end = c.args.end.now in
-    let point = IsPartitionPoint-from_clause (is_before end) xs c.partition_point-first.result c.partition_point-first.ensures.partitioned (parted xs end rising) (λ a r q k. search rules) in
     c.loop-setting.invariant.noted n few
-    ∙ stopped xs c.partition_point-first.result c.loop-setting.setting-index n c.setting-item.result end c.as_slice-path.result.now rising c.partition_point-first.ensures.bound point.0 point.1
+    ∙ stopped xs c.first_from-first.result c.loop-setting.setting-index n c.setting-item.result end c.as_slice-path.result.now rising c.first_from-first.ensures.bound (c.first_from-first.ensures.below rising) (c.first_from-first.ensures.others rising)
     c.loop-setting-test.true c.setting-item.is c.as_slice-path.ensures (sym c.begins_with.ensures ∙ c.if-not-begins_with.true)
 
 pub loop-setting-preserved : goal.loop-setting-preserved
@@ -28,7 +26,7 @@ loop-setting-preserved c = record {
       let path = c.as_slice-path.result.now in
       let end = c.args.end.now in
       let old = slice_index_or c.loop-setting.set n false in
-      one_passed c.args.settings.now c.partition_point-first.result c.loop-setting.setting-index n c.setting-item.result end path old _ c.loop-setting-test.true c.setting-item.is
+      one_passed c.args.settings.now c.first_from-first.result c.loop-setting.setting-index n c.setting-item.result end path old _ c.loop-setting-test.true c.setting-item.is
       c.as_slice-path.ensures (c.loop-setting.invariant.noted n few)
       (elim c.match-get.branch [
         | in-Some+then-nibble-lt16 w ↦
@@ -48,6 +46,5 @@ pub returns : goal.returns
 returns c = λ n rising few.
     let xs = c.args.settings.now in
     let end = c.args.end.now in
-    let point = IsPartitionPoint-from_clause (is_before end) xs c.partition_point-first.result c.partition_point-first.ensures.partitioned (parted xs end rising) (λ a r q k. search rules) in
     c.loop-setting.invariant.noted n few
-    ∙ all_passed xs c.partition_point-first.result c.loop-setting.setting-index n end c.partition_point-first.ensures.bound point.0 c.loop-setting-test.false
+    ∙ all_passed xs c.first_from-first.result c.loop-setting.setting-index n end c.first_from-first.ensures.bound (c.first_from-first.ensures.below rising) c.loop-setting-test.false
