@@ -195,31 +195,32 @@ fn put_run(
 }
 
 // The hash of a child that is off the way to all keys that are set, and not deeper than a key goes.
-fn sibling_at(child: ChildRef, end: &[u8], nibble: u8, is_set: bool) -> Option<Sibling>
+fn sibling_at<'a>(child: ChildRef<'a>, end: &[u8], is_set: bool) -> Option<&'a [u8]>
     requires { HasItsSize child }
-    ensures some { IfSome result (λ s. (s.nibble ≡ nibble) × (is_set ≡ false) × (length end.now + 1 ≤ 2048)
-        × (child_bytes child.entry ≡ Some s.hash.0) × (length s.hash.0 ≡ 32)) }
+    ensures some { IfSome result (λ h. (is_set ≡ false) × (length end.now + 1 ≤ 2048)
+        × (child_bytes child.entry ≡ Some h.now) × (length h.now ≡ 32)) }
 {
     if is_set || end.len() >= MOST_NIBBLES {
         return None;
     }
     match child {
-        ChildRef::Hashed(hash) => Some(Sibling {
-            nibble,
-            hash: NodeHash(hash_of(hash)),
-        }),
+        ChildRef::Hashed(hash) => Some(hash),
         _ => None,
     }
 }
 
 // Adds a sibling to a run. The first makes room for as many as can follow it in a node.
-fn push_sibling(run: &mut Vec<Sibling>, sibling: Sibling) -> Result<(), OutOfMemory>
-    ensures { OnOk result (run.new.items ≡ run.old.items ++ sibling ∷ []) }
+fn push_sibling(run: &mut Vec<Sibling>, nibble: u8, hash: &[u8]) -> Result<(), OutOfMemory>
+    requires { length hash.now ≡ 32 }
+    ensures { (s : Sibling) → s.nibble ≡ nibble → s.hash.0 ≡ hash.now → OnOk result (run.new.items ≡ run.old.items ++ s ∷ []) }
 {
     if run.is_empty() {
-        run.reserve(16usize.saturating_sub(sibling.nibble as usize))?;
+        run.reserve(16usize.saturating_sub(nibble as usize))?;
     }
-    run.push(sibling)?;
+    run.push(Sibling {
+        nibble,
+        hash: NodeHash(hash_of(hash)),
+    })?;
     Ok(())
 }
 
@@ -271,8 +272,8 @@ fn pieces_at(
                 continue;
             }
         }
-        if let Some(sibling) = sibling_at(child, end, i, is_set) {
-            push_sibling(&mut run, sibling)?;
+        if let Some(hash) = sibling_at(child, end, is_set) {
+            push_sibling(&mut run, i, hash)?;
             continue;
         }
         put_after_run(alloc, end, i, child, run, &mut pieces)?;

@@ -44,22 +44,22 @@ loop-i-preserved-in-Some c =
     let f : ℕ → List Known = λ i. known_at go (end ++ i ∷ []) (get_or n.children i None) in
     let before : List Known = all_known (all_items c.loop-i.pieces.items) in
     let run : List Sibling = c.loop-i.run.items in
-    let s : Sibling = c.in-Some.sibling in
+    let s : Sibling = record { nibble = i; hash = record { 0 = c.in-Some.hash.now } } in
     let rest : List Known = flat_map f (from (i + 1) (16 - (i + 1))) in
     let known : (path : List ℕ) → end ≡ path ++ n.partial → before ++ (all_known (sibling_items end c.push_sibling.new.run.items) ++ rest) ≡ known_in 33 n path = λ path at.
-    ap (λ (ss : List Sibling). before ++ (all_known (sibling_items end ss) ++ rest)) c.in_ok-push_sibling.ensures
+    ap (λ (ss : List Sibling). before ++ (all_known (sibling_items end ss) ++ rest)) (c.in_ok-push_sibling.ensures s refl refl)
     ∙ ap (λ (ks : List Known). before ++ (ks ++ rest))
-    (sibling_known go end run s i (get_or n.children i None) c.in-Some.ensures.some.0 c.in-Some.ensures.some.2 (c.child-child.ensures.bytes ∙ c.in-Some.ensures.some.3) c.in-Some.ensures.some.4)
+    (sibling_known go end run s i (get_or n.children i None) refl c.in-Some.ensures.some.1 (c.child-child.ensures.bytes ∙ c.in-Some.ensures.some.2) c.in-Some.ensures.some.3)
     ∙ to_run before (all_known (sibling_items end run)) (f i) rest
     ∙ ap (λ (ks : List Known). before ++ (all_known (sibling_items end run) ++ ks)) (sym (one_child f i c.loop-i-test.true))
     ∙ c.loop-i.invariant.known path at in
     let off : IsRising c.args.settings.now → begins_one c.args.settings.now (end ++ i ∷ []) ≡ false =
-    λ rising. sym (c.nibbles_set-set.ensures i rising c.loop-i-test.true) ∙ c.in-Some.ensures.some.1 in
+    λ rising. sym (c.nibbles_set-set.ensures i rising c.loop-i-test.true) ∙ c.in-Some.ensures.some.0 in
     record {
       known = known;
       apart = c.loop-i.invariant.apart;
-      run = λ rising. subst (λ (ss : List Sibling). IsRun c.args.settings.now end (i + 1) ss) (sym c.in_ok-push_sibling.ensures)
-          (run_added c.args.settings.now end i run s c.in-Some.ensures.some.0 (off rising) (c.loop-i.invariant.run rising));
+      run = λ rising. subst (λ (ss : List Sibling). IsRun c.args.settings.now end (i + 1) ss) (sym (c.in_ok-push_sibling.ensures s refl refl))
+          (run_added c.args.settings.now end i run s refl (off rising) (c.loop-i.invariant.run rising));
     }
 
 pub loop-i-preserved-in-None : goal.loop-i-preserved-in-None
