@@ -23,11 +23,28 @@ const FIRST_ROOM: usize = 8;
 /// A key has at most so many nibbles.
 const MOST_NIBBLES: usize = 2048;
 
+/// So few nibbles are copied one by one.
+const FEW_NIBBLES: usize = 8;
+
+// The same path once more.
+fn path_from(alloc: Global, nibbles: &[u8]) -> Result<Path, OutOfMemory>
+    ensures { IfOk result (λ p. p.items ≡ nibbles.now) }
+{
+    if nibbles.len() > FEW_NIBBLES {
+        return SmallVec::from_slice(alloc, nibbles);
+    }
+    let mut path = SmallVec::new(alloc);
+    for nibble in nibbles {
+        path.push_reserved(*nibble);
+    }
+    Ok(path)
+}
+
 // Where a node's partial key ends, whose path this is.
 fn end_of(alloc: Global, path: &[u8], node: &NodeRef) -> Result<Path, OutOfMemory>
     ensures { IfOk result (λ p. p.items ≡ path.now ++ (node_of_ref node.now).partial) }
 {
-    let mut end = SmallVec::from_slice(alloc, path)?;
+    let mut end = path_from(alloc, path)?;
     let mut bytes = node.partial_bytes();
     if node.partial_len() % 2 == 1 {
         end.push(bytes[0] % 16)?;
@@ -41,7 +58,7 @@ fn end_of(alloc: Global, path: &[u8], node: &NodeRef) -> Result<Path, OutOfMemor
 fn child_path(alloc: Global, end: &[u8], nibble: u8) -> Result<Path, OutOfMemory>
     ensures { IfOk result (λ p. p.items ≡ end.now ++ nibble ∷ []) }
 {
-    let mut path = SmallVec::from_slice(alloc, end)?;
+    let mut path = path_from(alloc, end)?;
     path.push(nibble)?;
     Ok(path)
 }
@@ -73,7 +90,7 @@ fn put_own(
     let Some(value) = value else {
         return Ok(());
     };
-    let path = SmallVec::from_slice(alloc, key)?;
+    let path = path_from(alloc, key)?;
     let value = Bytes::from_slice(alloc, value)?;
     out.push(Piece::Entry(Entry { path, value }))?;
     Ok(())
@@ -182,7 +199,7 @@ fn put_run(
 {
     let mut nodes = nodes;
     if nodes.len() >= 2 {
-        let end = SmallVec::from_slice(alloc, end)?;
+        let end = path_from(alloc, end)?;
         out.push(Piece::Siblings(Siblings { end, nodes }))?;
         return Ok(());
     }

@@ -25,10 +25,10 @@ returns c =
     let count : c.partial_len.result ≡ length partial = c.partial_len.ensures in
     elim c.if-partial_len-eq1.branch [
       | then-partial_len-eq1+in_ok-push w ↦
-          rw (c.in_ok-push_nibbles.ensures, w.end-is, w.bytes-is, take_rest bytes 1, w.in_ok-push.ensures.ok, c.in_ok-end.ensures.ok)
+          rw (c.in_ok-push_nibbles.ensures, w.end-is, w.bytes-is, take_rest bytes 1, w.in_ok-push.ensures.ok, c.in_ok-end.ensures)
           (odd_end path bytes partial (length partial % 2) (rw count at w.if-partial_len-eq1.true) refl c.partial_bytes-bytes.ensures)
       | else-partial_len-eq1 w ↦
           let even : length partial % 2 ≡ 0 = omega (arith, w.if-partial_len-eq1.false) in
-          rw (c.in_ok-push_nibbles.ensures, w.end-is, w.bytes-is, c.in_ok-end.ensures.ok)
+          rw (c.in_ok-push_nibbles.ensures, w.end-is, w.bytes-is, c.in_ok-end.ensures)
           (even_end path bytes partial (length partial % 2) even c.partial_bytes-bytes.ensures)
     ]
