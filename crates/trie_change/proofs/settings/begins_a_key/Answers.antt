@@ -1,8 +1,8 @@
-use Rattle.std.proofs.Common.{◌≡◌, ◌<◌, true, length, List, ℕ, ap, subst, sym, ◌∙◌, arith, rules}
+use Rattle.std.proofs.Common.{◌≡◌, ◌<◌, true, length, List, ℕ, ap, subst, sym, ◌∙◌, arith}
 use Rattle.std.specs.Prelude.{nat_eq}
 use Rattle.std.specs.List.{AllWithin, starts_with}
 use Rattle.trie_change.specs.declared.settings.Setting.{Setting}
-use Rattle.trie_change.proofs.KeysBegun.{first_begins, is_before, none_begins, parted}
+use Rattle.trie_change.proofs.KeysBegun.{first_begins, is_before, none_begins}
 use Rattle.trie_change.proofs.settings.begins_a_key.Goals as goal
 
 pub returns-then-first-settings : goal.returns-then-first-settings

@@ -1,7 +1,6 @@
-use Rattle.std.proofs.Common.{length, slice_index_or, false, ap, sym, ◌∙◌, rules}
+use Rattle.std.proofs.Common.{length, slice_index_or, false, ap, sym, ◌∙◌}
 use Rattle.std.specs.Prelude.{◌||◌}
 use Rattle.std.proofs.lemmas.List.{length-set}
-use Rattle.trie_change.proofs.KeysBegun.{is_before, parted}
 use Rattle.trie_change.proofs.NextNibbles.{ends_before, goes_on_by, is_no_nibble, noted, or_false}
 use Rattle.trie_change.proofs.NibblesSet.{all_passed, one_passed, stopped}
 use Rattle.trie_change.proofs.settings.nibbles_set.Goals as goal
