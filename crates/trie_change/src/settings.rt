@@ -15,7 +15,7 @@ ghost use Rattle.trie_change.specs.inner.Pieces.{IsAside, IsBesideKey, all_items
 
 use crate::frontier::{Entry, Path, Piece};
 use crate::in_order::path_of;
-use crate::nibbles::push_nibbles;
+use crate::nibbles::{nibbles_of_32, push_nibbles};
 use sdb_base::{Bytes, Change, Changes, OutOfMemory};
 use smallvec::SmallVec;
 use std::alloc::Global;
@@ -34,6 +34,9 @@ pub(crate) struct Setting {
 fn path_of_key(alloc: Global, key: &[u8]) -> Result<Path, OutOfMemory>
     ensures { IfOk result (λ p. p.items ≡ nibbles_of key.now) }
 {
+    if key.len() == 32 {
+        return Ok(SmallVec::from_buf(alloc, nibbles_of_32(key)));
+    }
     let mut path = SmallVec::new(alloc);
     push_nibbles(&mut path, key)?;
     Ok(path)
