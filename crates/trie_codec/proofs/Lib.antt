@@ -4,6 +4,7 @@ pub mod Bits
 pub mod Bodies
 pub mod Children
 pub mod FromLast
+pub mod HashFirst
 pub mod Headers
 pub mod KeyBytes
 pub mod Layouts

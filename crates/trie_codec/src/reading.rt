@@ -17,6 +17,9 @@ use sdb_scale::{ScaleFault, compact};
 /// A partial key has at most so many nibbles.
 const MOST_NIBBLES: usize = 2048;
 
+/// The compact length of 32 bytes, as the one byte that spells it.
+const HASH_FIRST: u8 = 0x80;
+
 /// Inline children are at most so many levels deep, since each has fewer than 32 bytes.
 const MOST_LEVELS: u8 = 32;
 
@@ -194,6 +197,10 @@ fn read_child(depth: u8, bytes: &[u8]) -> Result<(&[u8], &[u8]), CodecFault>
     ensures took { IfOk result (λ x. length bytes.now ≡ length (string x.0.now) + length x.1.now) }
     ensures rest { IfOk result (λ x. IsSliceOf bytes.entry x.1 0) }
 {
+    // Most children are hashes: 32 bytes after the byte that says so.
+    if bytes.len() > 32 && bytes[0] == HASH_FIRST {
+        return Ok((&bytes[1..33], &bytes[33..]));
+    }
     let (len, rest) = read_length(bytes)?;
     if len == 0 || len > 32 {
         return Err(CodecFault::BadChild);

@@ -9,6 +9,7 @@ use Rattle.trie_model.specs.Node.{optional_string}
 use Rattle.trie_codec.specs.Slices.{bytes_in}
 use Rattle.trie_codec.specs.Places.{IsSliceOf}
 use Rattle.trie_codec.specs.Reading.{first_children, reads_inline}
+use Rattle.trie_codec.proofs.HashFirst.{hash_read, hash_took}
 use Rattle.trie_codec.proofs.Children.{goes_on, ends, is_done}
 use Rattle.trie_codec.proofs.Slices.{after_next, more_taken, none_from_next, none_borrowed, one_more_after, one_more_lent, same_after}
 use Rattle.trie_codec.proofs.Places.{borrows_within, part_within, some_within}
@@ -25,6 +26,12 @@ pub read_child-returns-clause-took : goal.read_child-returns-clause-took
 read_child-returns-clause-took t c =
     let all = All-from_get_or (λ b. b < 256) c.args.bytes.now 0 (λ k h. omega (arith, c.type_inv.bytes k)) in
     string_took (c.in_ok-len.len, c.in_ok-len.rest.now) c.args.bytes.now (c.in_ok-child.child.now, c.in_ok-child.rest.now) all c.in_ok-len.ensures.gives c.in_ok-child.ensures.gives
+
+pub read_child-returns-then-bytes-clause-gives : goal.read_child-returns-then-bytes-clause-gives
+read_child-returns-then-bytes-clause-gives t c = hash_read (reads_inline c.args.depth) c.args.bytes.now c.if-bytes-gt32.true c.if-bytes.true
+
+pub read_child-returns-then-bytes-clause-took : goal.read_child-returns-then-bytes-clause-took
+read_child-returns-then-bytes-clause-took t c = hash_took c.args.bytes.now c.if-bytes-gt32.true
 
 pub read_children-returns-in_err-child-clause-gives : goal.read_children-returns-in_err-child-clause-gives
 read_children-returns-in_err-child-clause-gives t c =
