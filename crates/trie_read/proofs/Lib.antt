@@ -31,4 +31,6 @@ pub mod SearchEnds
 pub mod SearchBegins
 pub mod PartsOfChildren
 pub mod GoodNodes
+pub mod Room
+pub mod FewBytes
 pub mod OwnNodes

@@ -129,6 +129,16 @@ fn is_child_too_deep(levels: u8, at: usize, child: ChildRef) -> bool
     }
 }
 
+// The same of the node that bytes spell. A byte spells two nibbles at most, so that near a root none of few bytes is looked at.
+fn spells_too_deep(at: usize, bytes: &[u8], node: &NodeRef) -> bool
+    requires at { at ≤ 2048 }
+    requires node { IsNode (node_of_ref node.now) }
+    requires read { node_of_bytes bytes.now ≡ Ok (node_of_ref node.now) }
+    ensures { result ≡ too_deep 33 at (node_of_ref node.now) }
+{
+    bytes.len() > (MOST_NIBBLES - at) / 2 && hangs_too_deep(MOST_LEVELS, at, node)
+}
+
 /// Whether a node that bytes spell is bad where it hangs after `at` nibbles: it or an inline one in it goes past the limits of a
 /// key or a value, or it is the node of the empty trie below a root.
 pub fn is_bad_below(at: usize, bytes: &[u8], node: &NodeRef) -> bool
@@ -139,7 +149,7 @@ pub fn is_bad_below(at: usize, bytes: &[u8], node: &NodeRef) -> bool
     if at > MOST_NIBBLES {
         return true;
     }
-    hangs_too_deep(MOST_LEVELS, at, node) || (at > 0 && bytes == [0].as_slice())
+    spells_too_deep(at, bytes, node) || (at > 0 && bytes == [0].as_slice())
 }
 
 /// The node that bytes spell where it hangs after `at` nibbles, unless they are bad.
