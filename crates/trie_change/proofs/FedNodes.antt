@@ -19,6 +19,15 @@ use Rattle.trie_change.specs.declared.frontier.Fed.{Fed}
 abbrev pub fed_node : Fed → PathNode
 fed_node f = record { path = f.path.items; bytes = f.bytes }
 
+-- a comparison has come no further where the nodes of two are the same
+pub same_comparison : (d e : Diff) (k : Comparison) → e.fed ≡ d.fed → e.puts ≡ d.puts → e.drops ≡ d.drops → IsComparison d k → IsComparison e k
+same_comparison d e k fed puts drops is = record {
+  left = is.left ∙ ap (λ v. reverse (fed_nodes v.items)) (sym fed);
+  hashes = subst (λ v. All HasItsHash v.items) (sym fed) is.hashes;
+  puts = ap (λ v. v.items) puts ∙ is.puts;
+  drops = ap (λ v. v.items) drops ∙ is.drops;
+}
+
 -- a list is empty or has a last
 pub ended : {X : Type 0} (xs : List X) → (xs ≡ []) ⊎ ((before : List X) × (last : X) × (xs ≡ before ++ last ∷ []))
 ended {X = X} xs = by_reverse (reverse xs) refl

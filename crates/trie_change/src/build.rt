@@ -97,9 +97,11 @@ fn made_of(alloc: Global, diff: &mut Diff, items: &[Piece], at: usize) -> Result
     if is_key_alone(items, end) {
         return made_leaf(alloc, &items[0], at, end);
     }
-    let mut children = SpelledChildren::new(alloc)?;
+    let mut children = diff.no_children(alloc)?;
     put_children(alloc, diff, items, end, &mut children)?;
-    made_node(alloc, &items[0], at, end, &children)
+    let made = made_node(alloc, &items[0], at, end, &children)?;
+    diff.keep_buffer(children)?;
+    Ok(made)
 }
 
 // Puts the Merkle values of the children of the node whose partial key ends at `at` nibbles, one for each next nibble. They

@@ -15,6 +15,7 @@ use sdb_base::{Bytes, Node, NodeHash, OutOfMemory};
 use sdb_blake2::hash256;
 use std::alloc::Global;
 use std::cmp::Ordering;
+use trie_codec::SpelledChildren;
 
 /// What is put and dropped as the stored nodes of a changed trie come, from the highest path down.
 #[derive(Debug, Drop)]
@@ -24,6 +25,8 @@ pub(crate) struct Diff {
     // What is put and dropped, by falling path.
     puts: Vec<Node>,
     drops: Vec<NodeHash>,
+    // Buffers of children whose node is made.
+    spare: Vec<SpelledChildren>,
 }
 
 // The order of the paths.
@@ -47,7 +50,31 @@ impl Diff {
             fed,
             puts: Vec::with_capacity(alloc, room)?,
             drops: Vec::with_capacity(alloc, room)?,
+            spare: Vec::new(alloc),
         })
+    }
+
+    /// No children yet, in a buffer that is spare where there is one.
+    pub(crate) fn no_children(&mut self, alloc: Global) -> Result<SpelledChildren, OutOfMemory>
+        ensures fed { self.new.fed ≡ self.old.fed }
+        ensures puts { self.new.puts ≡ self.old.puts }
+        ensures drops { self.new.drops ≡ self.old.drops }
+        ensures none { IfOk result (λ c. c ≡ []) }
+    {
+        match self.spare.pop() {
+            Some(children) => children.cleared(alloc),
+            None => SpelledChildren::new(alloc),
+        }
+    }
+
+    /// Keeps the buffer of children whose node is made.
+    pub(crate) fn keep_buffer(&mut self, children: SpelledChildren) -> Result<(), OutOfMemory>
+        ensures fed { self.new.fed ≡ self.old.fed }
+        ensures puts { self.new.puts ≡ self.old.puts }
+        ensures drops { self.new.drops ≡ self.old.drops }
+    {
+        self.spare.push(children)?;
+        Ok(())
     }
 
     /// Takes a stored node of the changed trie, whose path is below those before, and gives its hash. A fed node at its path is

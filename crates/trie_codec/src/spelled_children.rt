@@ -64,6 +64,22 @@ impl SpelledChildren {
         })
     }
 
+    /// No child is put yet, in the memory of children that aren't needed any more.
+    pub fn cleared(self, alloc: Global) -> Result<SpelledChildren, OutOfMemory>
+        ensures { IfOk result (λ c. c ≡ []) }
+    {
+        let SpelledChildren { bytes, .. } = self;
+        if bytes.len() < MOST_BYTES {
+            return SpelledChildren::new(alloc);
+        }
+        Ok(SpelledChildren {
+            start: bytes.len(),
+            bytes,
+            count: 0,
+            map: 0,
+        })
+    }
+
     /// All sixteen children, of which none is there. They take no memory.
     pub fn none(alloc: Global) -> SpelledChildren
         ensures { result ≡ replicate 16 None }

@@ -231,7 +231,7 @@ fn spelled(
     Ok(Some(encode(alloc, &node)?))
 }
 
-// The children at these nibbles, spelled from the last one on; none where one is too long.
+// The children at these nibbles, spelled from the last one on, in the memory of others; none where one is too long.
 fn from_last(
     alloc: Global,
     children: &[(u8, &[u8])],
@@ -239,7 +239,9 @@ fn from_last(
     ensures sixteen { IfOk result (λ found. IfSome found (λ c. length c ≡ 16)) }
     ensures short { IfOk result (λ found. IfSome found (λ c. All (λ child. IfSome child HasCompactLength) c)) }
 {
-    let mut found = SpelledChildren::new(alloc)?;
+    let mut others = SpelledChildren::new(alloc)?;
+    others.put(&[0xff; 32]);
+    let mut found = others.cleared(alloc)?;
     for count in 0..16u8 {
         match children.iter().find(|child| child.0 == 15 - count) {
             None => found.put_none(),

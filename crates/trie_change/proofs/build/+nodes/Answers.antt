@@ -14,9 +14,10 @@ use Rattle.trie_change.specs.declared.build.Made.{Made}
 use Rattle.trie_change.specs.declared.build.Made.TheVariants as made
 use Rattle.trie_change.specs.inner.Built.{IsMade, IsSpelled, ItemBranch, ItemGroup, is_made, made_of_group, node_of_group, nodes_below, nodes_from, values_below}
 use Rattle.trie_change.specs.declared.diff.Diff.{Diff}
-use Rattle.trie_change.specs.inner.Diffs.{Comparison, IsComparison, after_nodes}
+use Rattle.trie_change.specs.inner.Diffs.{AreShort, Comparison, IsComparison, after_nodes}
 use Rattle.trie_change.specs.inner.Pieces.{all_items, piece_hash, piece_path, piece_value}
 use Rattle.trie_change.proofs.ChildValues.{any_there, group_some, longer_path, value_there}
+use Rattle.trie_change.proofs.FedNodes.{same_comparison}
 use Rattle.trie_change.proofs.KeysAlone.{none_of_key}
 use Rattle.trie_change.proofs.MadeGroups.{end_within}
 use Rattle.trie_change.proofs.MadeValues.{stored_long, value_hashed}
@@ -172,7 +173,7 @@ made_of-put_children-requires t c =
       search rules,
       (
         omega (arith, ends_within c.args.at c.shared_of_ends.result pieces d c.requires.some c.requires.long (c.shared_of_ends.ensures d), first_short pieces d c.requires.some c.requires.limited),
-        (c.requires.limited, (c.requires.short, c.in_ok-children.ensures)),
+        (c.requires.limited, (subst (λ v. AreShort v.items) (sym c.no_children.ensures.puts) c.requires.short, c.in_ok-children.ensures.none)),
       ),
     )
 
@@ -214,10 +215,15 @@ spelled_here at n pieces g first other children k d some is_other is long no_has
 pub made_of-returns-clause-made : goal.made_of-returns-clause-made
 made_of-returns-clause-made t c = λ g k is.
     let first = c.index-items-0-2.result in
-    IfOk-weaker c.made_node.result _ _
-    (spelled_here c.args.at c.shared_of_ends.result c.args.items.now g first c.index-items-0.result c.put_children.new.children k c.put_children.new.diff
+    let begun = same_comparison c.args.diff.now c.no_children.new.self k c.no_children.ensures.fed c.no_children.ensures.puts c.no_children.ensures.drops is in
+    let kept = c.keep_buffer.ensures in
+    spelled_here c.args.at c.shared_of_ends.result c.args.items.now g first c.index-items-0.result c.put_children.new.children k c.keep_buffer.new.self
     c.requires.some c.index-items-0.is c.index-items-0-2.is c.requires.long c.in_default.ensures (c.shared_of_ends.ensures first)
-    (λ b. c.in_ok-put_children.ensures.children b k is)) c.made_node.ensures.spelled
+    (λ b. (
+      (c.in_ok-put_children.ensures.children b k begun).0,
+      same_comparison c.put_children.new.diff c.keep_buffer.new.self (after_nodes k (filter (is_made b.group.under) (nodes_below b.group.suffixes b.group.path)))
+          kept.fed kept.puts kept.drops (c.in_ok-put_children.ensures.children b k begun).1,
+    )) c.in_ok-made.made c.in_ok-made.ensures.spelled
 
 pub made_of-returns-then-is_key_alone-clause-made : goal.made_of-returns-then-is_key_alone-clause-made
 made_of-returns-then-is_key_alone-clause-made t c = λ g k is.

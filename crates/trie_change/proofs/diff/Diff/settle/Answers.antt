@@ -27,7 +27,7 @@ returns-then-eq-clause-settled c = λ k n path bytes is.
 pub returns-clause-settled : goal.returns-clause-settled
 returns-clause-settled c = λ k n path bytes is.
     let before = c.args.self.now in
-    let after : Diff = record { fed = c.match-pop_at.self.fed; puts = c.push-2.new.self; drops = c.match-pop_at.self.drops } in
+    let after : Diff = record { fed = c.match-pop_at.self.fed; puts = c.push-2.new.self; drops = c.match-pop_at.self.drops; spare = c.match-pop_at.self.spare } in
     let x : Node = record { hash = record { 0 = c.hash256.result }; bytes = c.args.bytes } in
     let hash : c.hash256.result ≡ H c.args.bytes = c.hash256.ensures ∙ ap H c.as_slice.ensures in
     let put : x ≡ hashed n = put_node c.hash256.result c.args.bytes n hash bytes in (
