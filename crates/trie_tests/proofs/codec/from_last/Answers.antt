@@ -23,7 +23,7 @@ loop-count-preserved c =
             short = subst (λ cs. All (λ child. IfSome child HasCompactLength) cs) (sym more) (one_more None found tt c.loop-count.invariant.short);
           }
       | in-Some w ↦
-          let more = w.found-is ∙ w.put.ensures in
+          let more = w.found-is ∙ w.put-in-Some.ensures in
           record {
             so_many = ap length more ∙ omega (arith, c.loop-count.invariant.so_many);
             short = subst (λ cs. All (λ child. IfSome child HasCompactLength) cs) (sym more)
